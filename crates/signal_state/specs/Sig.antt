@@ -1,0 +1,110 @@
+use Rattle.std.specs.Prelude.{ℕ, Bool, true, false, ◌≡◌, ◌⊎◌, ◌||◌, ◌&&◌, not, List, [], ◌∷◌, if◌then◌else◌}
+use Rattle.unix_names.specs.declared.Signal.{Signal}
+use Rattle.unix_names.specs.declared.Signal.TheVariants.{Kill, Stop, Tstp, Ttin, Ttou, Cont}
+use Rattle.unix_names.specs.declared.DefaultAct.{DefaultAct}
+use Rattle.unix_names.specs.declared.DefaultAct.TheVariants.{End, Ignore as IgnoreIt, StopIt, ContinueIt}
+use Rattle.unix_names.specs.Signals.{default_of}
+use Rattle.unix_names.specs.Sets.{has, added, removed, minus}
+use Rattle.signal_state.specs.Signals.{Signals}
+use Rattle.unix_names.specs.declared.Act.{Act}
+use Rattle.unix_names.specs.declared.Act.TheVariants.{Default, Ignore, Catch}
+
+abbrev pub fresh : Signals
+fresh = record { pending = 0; mask = 0; ignored = 0; caught = 0; stopped = false; due = false }
+
+abbrev pub child : Signals → Signals
+child x = record { pending = 0; mask = x.mask; ignored = x.ignored; caught = x.caught; stopped = false; due = false }
+
+abbrev pub drops_by_default : DefaultAct → Bool
+drops_by_default IgnoreIt = true
+drops_by_default ContinueIt = true
+drops_by_default StopIt = false
+drops_by_default End = false
+
+abbrev pub is_dropped_by_default : Signal → Bool
+is_dropped_by_default s = drops_by_default (default_of s)
+
+-- what pending keeps of what was there when s comes
+abbrev pub kept_pending : ℕ → Signal → ℕ
+kept_pending p Cont = removed (removed (removed (removed p Stop) Tstp) Ttin) Ttou
+kept_pending p Stop = removed p Cont
+kept_pending p Tstp = removed p Cont
+kept_pending p Ttin = removed p Cont
+kept_pending p Ttou = removed p Cont
+kept_pending p _ = p
+
+abbrev pub due_after : Signals → Signal → Bool
+due_after x Cont = x.due || x.stopped
+due_after x _ = x.due
+
+abbrev pub is_dropped : Signals → Signal → Bool
+is_dropped x s = has x.ignored s || (not (has x.caught s) && is_dropped_by_default s)
+
+unfoldable pub generated : Signals → Signal → Signals
+generated x s = record {
+  pending = if is_dropped x s then kept_pending x.pending s else added (kept_pending x.pending s) s;
+  mask = x.mask;
+  ignored = x.ignored;
+  caught = x.caught;
+  stopped = x.stopped;
+  due = due_after x s;
+}
+
+abbrev pub generated_all : Signals → List Signal → Signals
+generated_all x [] = x
+generated_all x (s ∷ ss) = generated_all (generated x s) ss
+
+unfoldable pub deliverable : Signals → ℕ
+deliverable x = if x.stopped then (if has x.pending Kill then added 0 Kill else 0) else minus x.pending x.mask
+
+abbrev pub IsClear : Signals → Type 0
+IsClear x = (deliverable x ≡ 0) × (x.due ≡ false)
+
+abbrev pub IsFixed : Signal → Type 0
+IsFixed s = (s ≡ Kill) ⊎ (s ≡ Stop)
+
+abbrev pub with_action : Signals → Signal → Act → Signals
+with_action x s Default = record {
+  pending = if is_dropped_by_default s then removed x.pending s else x.pending;
+  mask = x.mask;
+  ignored = removed x.ignored s;
+  caught = removed x.caught s;
+  stopped = x.stopped;
+  due = x.due;
+}
+with_action x s Ignore = record {
+  pending = removed x.pending s;
+  mask = x.mask;
+  ignored = added (removed x.ignored s) s;
+  caught = removed x.caught s;
+  stopped = x.stopped;
+  due = x.due;
+}
+with_action x s Catch = record {
+  pending = x.pending;
+  mask = x.mask;
+  ignored = removed x.ignored s;
+  caught = added (removed x.caught s) s;
+  stopped = x.stopped;
+  due = x.due;
+}
+
+abbrev pub with_mask : Signals → ℕ → Signals
+with_mask x m = record {
+  pending = x.pending;
+  mask = removed (removed m Kill) Stop;
+  ignored = x.ignored;
+  caught = x.caught;
+  stopped = x.stopped;
+  due = x.due;
+}
+
+abbrev pub after_exec : Signals → Signals
+after_exec x = record {
+  pending = x.pending;
+  mask = x.mask;
+  ignored = x.ignored;
+  caught = 0;
+  stopped = x.stopped;
+  due = x.due;
+}

@@ -1,0 +1,8 @@
+//! The signals of one process: what is pending, blocked, ignored and caught, and what generating a signal does.
+#![tactic(auto)]
+
+mod own;
+mod sig;
+
+pub use own::Own;
+pub use sig::{Sig, is_ignored_by_default};

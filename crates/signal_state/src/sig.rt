@@ -1,0 +1,174 @@
+// The signals of one process (POSIX.1-2017, XSH 2.4).
+ghost use Rattle.std.specs.Prelude.{◌≡◌, ◌↔◌, IsTrue, IsErr, OnErr, OnOk};
+ghost use Rattle.signal_state.specs.Sig.{generated, deliverable, with_action, with_mask, after_exec, child, fresh, IsClear, IsFixed, is_dropped_by_default};
+ghost use Rattle.unix_names.specs.declared.Signal.TheVariants.{Kill, Stop};
+
+use std::marker::Model;
+use unix_names::{Act, DefaultAct, Errno, SigSet, Signal, default_of};
+
+/// The signals of a process.
+#[derive(Clone, Copy, Debug, PartialEq, Eq)]
+pub struct Sig {
+    pub pending: SigSet,
+    pub mask: SigSet,
+    pub ignored: SigSet,
+    pub caught: SigSet,
+    pub stopped: bool,
+    pub due: bool,
+}
+
+impl Model for Sig {
+    ghost use Rattle.std.specs.Prelude.{ℕ};
+    ghost use Rattle.signal_state.specs.Signals.{Signals, IsKept};
+
+    ghost Value = { Signals };
+
+    ghost view = { λ a. record { pending = a.pending; mask = a.mask; ignored = a.ignored; caught = a.caught; stopped = a.stopped; due = a.due } };
+
+    ghost invariant = { λ a. IsKept (record { pending = a.pending; mask = a.mask; ignored = a.ignored; caught = a.caught; stopped = a.stopped; due = a.due }) };
+
+    ghost inverse = { λ d. record { pending = d.pending; mask = d.mask; ignored = d.ignored; caught = d.caught; stopped = d.stopped; due = d.due } };
+}
+
+impl Sig {
+    pub fn fresh() -> Sig
+        ensures { result ≡ fresh }
+    {
+        let empty = SigSet::empty();
+        Sig {
+            pending: empty,
+            mask: empty,
+            ignored: empty,
+            caught: empty,
+            stopped: false,
+            due: false,
+        }
+    }
+
+    pub fn child(&self) -> Sig
+        ensures { result ≡ child self.now }
+    {
+        Sig {
+            pending: SigSet::empty(),
+            mask: self.mask,
+            ignored: self.ignored,
+            caught: self.caught,
+            stopped: false,
+            due: false,
+        }
+    }
+
+    /// Generates a signal.
+    #[tactic(auto, unfolding(crate::specs::Sig::generated))]
+    pub fn generate(&mut self, s: Signal)
+        ensures { self.new ≡ generated self.old s }
+    {
+        let mut pending = self.pending;
+        let mut due = self.due;
+        match s {
+            Signal::Cont => {
+                pending = pending
+                    .without(Signal::Stop)
+                    .without(Signal::Tstp)
+                    .without(Signal::Ttin)
+                    .without(Signal::Ttou);
+                due = due || self.stopped;
+            }
+            Signal::Stop | Signal::Tstp | Signal::Ttin | Signal::Ttou => {
+                pending = pending.without(Signal::Cont);
+            }
+            _ => {}
+        }
+        let drops = self.ignored.has(s) || (!self.caught.has(s) && is_ignored_by_default(s));
+        if !drops {
+            pending = pending.with(s);
+        }
+        *self = Sig {
+            pending,
+            mask: self.mask,
+            ignored: self.ignored,
+            caught: self.caught,
+            stopped: self.stopped,
+            due,
+        };
+    }
+
+    #[tactic(auto, unfolding(crate::specs::Sig::deliverable))]
+    pub fn deliverable(&self) -> SigSet
+        ensures { result ≡ deliverable self.now }
+    {
+        if self.stopped {
+            if self.pending.has(Signal::Kill) {
+                SigSet::empty().with(Signal::Kill)
+            } else {
+                SigSet::empty()
+            }
+        } else {
+            self.pending.minus(self.mask)
+        }
+    }
+
+    pub fn is_clear(&self) -> bool
+        ensures { IsTrue result ↔ IsClear self.now }
+    {
+        self.deliverable().is_empty() && !self.due
+    }
+
+    pub fn set_action(&mut self, s: Signal, act: Act) -> Result<(), Errno>
+        ensures err { IsErr result ↔ IsFixed s }
+        ensures ok { OnOk result (self.new ≡ with_action self.old s act) }
+        ensures same { OnErr result (self.new ≡ self.old) }
+    {
+        if s == Signal::Kill || s == Signal::Stop {
+            return Err(Errno::EINVAL);
+        }
+        let mut pending = self.pending;
+        let mut ignored = self.ignored.without(s);
+        let mut caught = self.caught.without(s);
+        match act {
+            Act::Default => {
+                if is_ignored_by_default(s) {
+                    pending = pending.without(s);
+                }
+            }
+            Act::Ignore => {
+                pending = pending.without(s);
+                ignored = ignored.with(s);
+            }
+            Act::Catch => {
+                caught = caught.with(s);
+            }
+        }
+        *self = Sig {
+            pending,
+            mask: self.mask,
+            ignored,
+            caught,
+            stopped: self.stopped,
+            due: self.due,
+        };
+        Ok(())
+    }
+
+    pub fn set_mask(&mut self, m: SigSet) -> SigSet
+        ensures old { result ≡ self.old.mask }
+        ensures new { self.new ≡ with_mask self.old m }
+    {
+        let old = self.mask;
+        self.mask = m.without(Signal::Kill).without(Signal::Stop);
+        old
+    }
+
+    pub fn after_exec(&mut self)
+        ensures { self.new ≡ after_exec self.old }
+    {
+        self.caught = SigSet::empty();
+    }
+}
+
+/// Whether the default action drops the signal when it is generated.
+pub fn is_ignored_by_default(s: Signal) -> bool
+    ensures { result ≡ is_dropped_by_default s }
+{
+    matches!(default_of(s), DefaultAct::Ignore | DefaultAct::ContinueIt)
+}

@@ -1,0 +1,10 @@
+//! What a process asks and is answered, what a history says of it, and the world that a file describes.
+#![tactic(auto)]
+
+mod calls;
+mod turns;
+mod world;
+
+pub use calls::{Call, Entry, Event, Reply, Selector, Target, selector_of, target_of};
+pub use turns::{Job, Phase, Turn};
+pub use world::{Arg, Script, Start, Statement, World};

@@ -1,0 +1,4 @@
+pub mod Names
+pub mod Sets
+pub mod Signals
+pub mod States

@@ -1,0 +1,14 @@
+//! The words of the system: names of processes and groups, nodes, signals and their sets, errors, and what becomes of a process.
+#![tactic(auto)]
+
+mod names;
+mod seq;
+mod sets;
+mod signals;
+mod states;
+
+pub use names::{NOBODY, Name, NoMemory, NodeId, PIDS_PER_NODE, Pid, SYSTEM, home_of, is_before};
+pub use seq::Seq;
+pub use sets::SigSet;
+pub use signals::{ALL_SIGNALS, DefaultAct, Signal, default_of, number_of, signal_of, word_of};
+pub use states::{Act, Errno, Life, WaitStatus, is_living};
