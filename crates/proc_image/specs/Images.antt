@@ -1,7 +1,7 @@
 -- An image's progress, and that it fits its world.
 use Rattle.std.specs.Prelude.{◌≡◌, ◌<◌, length}
 use Rattle.unix_calls.specs.declared.World.{World}
-use Rattle.proc_image.specs.declared.Image.{Image}
+use Rattle.proc_image.specs.declared.image.Image.{Image}
 use Rattle.proc_image.specs.Scripts.{Progress}
 
 -- how far the process of an image is

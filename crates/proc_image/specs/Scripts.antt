@@ -1,13 +1,12 @@
 -- How a process runs its script: what it asks next, and how far it is after the answer.
 use Rattle.std.specs.Prelude.{ℕ, suc, Bool, true, false, ℤ, pos, neg_ℤ, List, Option, None, Some, unwrap_or, option_and_then, slice_get, slice_set}
 use Rattle.unix_names.specs.declared.Pid.{Pid}
-use Rattle.unix_names.specs.declared.NodeId.{NodeId}
 use Rattle.unix_calls.specs.declared.Arg.{Arg}
 use Rattle.unix_calls.specs.declared.Arg.TheVariants.{Zero, One, Nobody, Own, Maker, Var}
 use Rattle.unix_calls.specs.declared.Call.{Call}
 use Rattle.unix_calls.specs.declared.Call.TheVariants as calls
 use Rattle.unix_calls.specs.declared.Reply.{Reply}
-use Rattle.unix_calls.specs.declared.Reply.TheVariants.{Number, Again, Fine, Set, Child, Refused, NoReply}
+use Rattle.unix_calls.specs.declared.Reply.TheVariants.{Number, Again}
 use Rattle.unix_calls.specs.declared.Statement.{Statement}
 use Rattle.unix_calls.specs.declared.Statement.TheVariants.{Getpid, Getppid, Getpgid, Getsid, Fork, Exec, Exit, Wait, Kill, Setpgid, Setsid, Action, Mask, Pending, Migrate}
 use Rattle.unix_calls.specs.declared.World.{World}
