@@ -1,0 +1,4 @@
+pub mod Filters
+pub mod Finding
+pub mod Elements
+pub mod Counts
