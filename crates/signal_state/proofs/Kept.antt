@@ -77,10 +77,10 @@ and_false true = refl
 and_false false = refl
 
 -- a set without s has no s
-has_not : (n : ℕ) (s t : Signal) → (number_of t == number_of s) ≡ true → has (removed n s) t ≡ false
+pub has_not : (n : ℕ) (s t : Signal) → (number_of t == number_of s) ≡ true → has (removed n s) t ≡ false
 has_not n s t e = has-removed n s t ∙ rw e (and_false (has n t))
 
-not_within : (a b : ℕ) (t : Signal) → IsWithin a b → has b t ≡ false → has a t ≡ false
+pub not_within : (a b : ℕ) (t : Signal) → IsWithin a b → has b t ≡ false → has a t ≡ false
 not_within a b t w f = elim (cases_Bool (has a t)) [ inl h ↦ absurd (cc (w t h)) | inr h ↦ h ]
 
 fixed_removed : (n : ℕ) (s : Signal) → IsWithoutFixed n → IsWithoutFixed (removed n s)
