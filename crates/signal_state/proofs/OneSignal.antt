@@ -44,8 +44,7 @@ cont_or_stop x =
     let c = removed b Ttin in
     let e = removed c Ttou in
     let within_b : IsWithin e b = λ t h. within_removed b Ttin t (within_removed c Ttou t h) in
-    let within_a : IsWithin e a = λ t h. within_removed a Tstp t (within_b t h) in
-    (
+    let within_a : IsWithin e a = λ t h. within_removed a Tstp t (within_b t h) in (
       gone e Cont Stop (is_dropped x Cont) (not_within e a Stop within_a (has_not x.pending Stop Stop refl)) refl,
       gone e Cont Tstp (is_dropped x Cont) (not_within e b Tstp within_b (has_not a Tstp Tstp refl)) refl,
       gone e Cont Ttin (is_dropped x Cont) (not_within e c Ttin (within_removed c Ttou) (has_not b Ttin Ttin refl)) refl,

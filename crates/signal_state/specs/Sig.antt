@@ -108,3 +108,36 @@ after_exec x = record {
   stopped = x.stopped;
   due = x.due;
 }
+
+-- the signal is taken out of what is pending
+abbrev pub delivered : Signals → Signal → Signals
+delivered x s = record {
+  pending = removed x.pending s;
+  mask = x.mask;
+  ignored = x.ignored;
+  caught = x.caught;
+  stopped = x.stopped;
+  due = x.due;
+}
+
+-- the signal is taken, and stops the process
+abbrev pub stopped_by : Signals → Signal → Signals
+stopped_by x s = record {
+  pending = removed x.pending s;
+  mask = x.mask;
+  ignored = x.ignored;
+  caught = x.caught;
+  stopped = true;
+  due = x.due;
+}
+
+-- the process runs on
+abbrev pub resumed : Signals → Signals
+resumed x = record {
+  pending = x.pending;
+  mask = x.mask;
+  ignored = x.ignored;
+  caught = x.caught;
+  stopped = false;
+  due = false;
+}
