@@ -1,0 +1,6 @@
+//! Reads the files that describe a world.
+#![tactic(auto)]
+
+mod form;
+
+pub use form::{FormRefusal, read_form};
