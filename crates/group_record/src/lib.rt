@@ -1,13 +1,10 @@
-// A library with one function.
+//! The record of a process group: its members, and the log of the signals that were sent to it.
 #![tactic(auto)]
 
-ghost use Rattle.std.specs.Prelude.{◌≡◌};
-ghost use Rattle.group_record.specs.Echo.{echo_of};
+mod group;
+mod log;
+mod member;
 
-// The `ensures` clause is the contract: what `echo` returns is `echo_of` of its argument, a definition
-// in `specs/Echo.antt`, which a caller's clause can cite too.
-pub fn echo(x: usize) -> usize
-    ensures { result ≡ echo_of x }
-{
-    x
-}
+pub use group::Group;
+pub use log::{Allow, LogEntry};
+pub use member::Member;

@@ -2,7 +2,7 @@
 #![tactic(auto)]
 
 mod children;
-
+mod vproc;
 
 pub use children::{Children, Full, MOST_CHILDREN};
-
+pub use vproc::Vproc;
