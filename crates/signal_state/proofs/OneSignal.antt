@@ -1,13 +1,11 @@
 -- what generating one signal does
-use Rattle.std.proofs.Common.{◌≡◌, ◌≢◌, ◌==◌, ◌&&◌, ◌||◌, not, ℕ, Bool, true, false, cond, refl, sym, ap, ◌∙◌, subst}
-use Rattle.std.proofs.lemmas.Bool.{or_cases, and_parts}
+use Rattle.std.proofs.Common.{◌≡◌, ◌==◌, ◌&&◌, ◌||◌, not, ℕ, Bool, true, false, cond, refl, ◌∙◌}
 use Rattle.unix_names.specs.declared.Signal.{Signal}
 use Rattle.unix_names.specs.declared.Signal.TheVariants.{Kill, Cont, Stop, Tstp, Ttin, Ttou}
 use Rattle.unix_names.specs.Signals.{number_of}
 use Rattle.unix_names.specs.Sets.{has, added, removed}
-use Rattle.unix_names.proofs.SetLaws.{has-added, has-removed}
-use Rattle.signal_state.specs.Signals.{Signals, IsKept}
-use Rattle.signal_state.specs.Sig.{generated, kept_pending, is_dropped, with_mask, due_after}
+use Rattle.unix_names.proofs.SetLaws.{has-added}
+use Rattle.signal_state.specs.Sig.{generated, is_dropped}
 use Rattle.signal_state.specs.Laws.{KillAlwaysPends, ContIsOneOrTheOther, ContMakesDue, MaskIsNotRead}
 use Rattle.signal_state.proofs.Kept.{IsWithin, within_removed, not_within, has_not}
 
@@ -44,8 +42,7 @@ cont_or_stop x =
     let c = removed b Ttin in
     let e = removed c Ttou in
     let within_b : IsWithin e b = λ t h. within_removed b Ttin t (within_removed c Ttou t h) in
-    let within_a : IsWithin e a = λ t h. within_removed a Tstp t (within_b t h) in
-    (
+    let within_a : IsWithin e a = λ t h. within_removed a Tstp t (within_b t h) in (
       gone e Cont Stop (is_dropped x Cont) (not_within e a Stop within_a (has_not x.pending Stop Stop refl)) refl,
       gone e Cont Tstp (is_dropped x Cont) (not_within e b Tstp within_b (has_not a Tstp Tstp refl)) refl,
       gone e Cont Ttin (is_dropped x Cont) (not_within e c Ttin (within_removed c Ttou) (has_not b Ttin Ttin refl)) refl,

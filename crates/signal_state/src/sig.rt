@@ -1,6 +1,6 @@
 // The signals of one process (POSIX.1-2017, XSH 2.4).
 ghost use Rattle.std.specs.Prelude.{◌≡◌, ◌↔◌, IsTrue, IsErr, IfErr, OnErr, OnOk};
-ghost use Rattle.signal_state.specs.Sig.{generated, generated_all, deliverable, with_action, with_mask, after_exec, child, fresh, IsClear, IsFixed, is_dropped_by_default};
+ghost use Rattle.signal_state.specs.Sig.{generated, generated_all, deliverable, with_action, with_mask, after_exec, child, fresh, delivered, stopped_by, resumed, IsClear, IsFixed, is_dropped_by_default};
 ghost use Rattle.signal_state.specs.Signals.{IsKept};
 
 use std::marker::Model;
@@ -190,6 +190,41 @@ impl Sig {
         ensures { self.new ≡ after_exec self.old }
     {
         self.caught = SigSet::empty();
+    }
+
+    /// Takes a signal out of what is pending: it is acted on, or discarded.
+    pub fn deliver(&mut self, s: Signal)
+        ensures { self.new ≡ delivered self.old s }
+    {
+        self.pending = self.pending.without(s);
+    }
+
+    /// Takes a signal, which stops the process.
+    pub fn stop(&mut self, s: Signal)
+        ensures { self.new ≡ stopped_by self.old s }
+    {
+        *self = Sig {
+            pending: self.pending.without(s),
+            mask: self.mask,
+            ignored: self.ignored,
+            caught: self.caught,
+            stopped: true,
+            due: self.due,
+        };
+    }
+
+    /// Lets a stopped process run on; nothing is due any more.
+    pub fn resume(&mut self)
+        ensures { self.new ≡ resumed self.old }
+    {
+        *self = Sig {
+            pending: self.pending,
+            mask: self.mask,
+            ignored: self.ignored,
+            caught: self.caught,
+            stopped: false,
+            due: false,
+        };
     }
 
     /// What is always so.

@@ -22,7 +22,10 @@ fn a_stopped_process_goes_on(rt: HostRuntime) -> Result<(), Fail> {
 #[test]
 fn blocked_and_caught(rt: HostRuntime) -> Result<(), Fail> {
     let mut sig = Sig::fresh();
-    assert_eq!(rt; sig.set_action(Signal::Kill, Act::Ignore), Err(Errno::EINVAL));
+    assert_eq!(rt;
+        sig.set_action(Signal::Kill, Act::Ignore),
+        Err(Errno::EINVAL)
+    );
     assert_eq!(rt; sig.set_action(Signal::Chld, Act::Catch), Ok(()));
     let old = sig.set_mask(SigSet::empty().with(Signal::Chld).with(Signal::Stop));
     assert!(rt; old.is_empty());
