@@ -1,0 +1,8 @@
+//! The one kernel: a table of processes, what each call may answer, what may happen to a process, and the table afterwards.
+#![tactic(auto)]
+
+mod rows;
+mod verdict;
+
+pub use rows::Row;
+pub use verdict::{Rule, Verdict};
