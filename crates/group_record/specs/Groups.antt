@@ -1,0 +1,26 @@
+-- what the changes of a group's record leave
+use Rattle.std.specs.Prelude.{ℕ, ◌==◌, not, List, [], ◌∷◌, ◌++◌, map, filter, drop, length}
+use Rattle.unix_names.specs.declared.Pid.{Pid}
+use Rattle.group_record.specs.declared.log.LogEntry.{LogEntry}
+use Rattle.group_record.specs.declared.group.Group.{Group}
+use Rattle.group_record.specs.Members.{least_from, lowered}
+
+-- a member more, the last, whose part of the log begins at its end
+abbrev pub joined : Group → Pid → ℕ → Group
+joined g p uid = record g { members = g.members ++ (record { pid = p; from = length g.log; uid = uid }) ∷ [] }
+
+-- a member less
+abbrev pub left : Group → Pid → Group
+left g p = record g { members = filter (λ m. not (m.pid.0 == p.0)) g.members }
+
+-- an entry more, the last
+abbrev pub with_entry : Group → LogEntry → Group
+with_entry g e = record g { log = g.log ++ e ∷ [] }
+
+-- the first entries of the log are gone, and each member's part begins that much earlier
+abbrev pub cut : ℕ → Group → Group
+cut count g = record g { members = map (lowered count) g.members; log = drop count g.log }
+
+-- what each member has passed is gone from the log
+abbrev pub trimmed : Group → Group
+trimmed g = cut (least_from g.members) g

@@ -1,0 +1,31 @@
+-- the members of a group, by process id
+use Rattle.std.specs.Prelude.{ℕ, Bool, ◌==◌, ◌-◌, min, List, [], ◌∷◌, fold, Option, None, Some, is_some}
+use Rattle.list_laws.specs.Keyed.{at}
+use Rattle.unix_names.specs.declared.Pid.{Pid}
+use Rattle.group_record.specs.declared.member.Member.{Member}
+
+abbrev pub member_number : Member → ℕ
+member_number m = m.pid.0
+
+-- the member of that process id
+abbrev pub member_of : List Member → Pid → Option Member
+member_of members p = at member_number p.0 members
+
+abbrev pub has_member : List Member → Pid → Bool
+has_member members p = is_some (member_of members p)
+
+abbrev pub from_in : Option Member → ℕ
+from_in None = 0
+from_in (Some m) = m.from
+
+-- where a member's part of the log begins
+abbrev pub from_of : List Member → Pid → ℕ
+from_of members p = from_in (member_of members p)
+
+-- the least `from`, or 0 with no member
+abbrev pub least_from : List Member → ℕ
+least_from [] = 0
+least_from (m ∷ ms) = fold (λ least x. min least x.from) m.from ms
+
+abbrev pub lowered : ℕ → Member → Member
+lowered by m = record m { from = m.from - by }

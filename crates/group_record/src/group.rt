@@ -1,0 +1,114 @@
+// The record of a process group.
+ghost use Rattle.std.specs.Prelude.{◌≡◌, ◌≢◌, ◌≤◌, ◌++◌, [], ℕ, false, true, ◌↔◌, length, All, IsTrue, IfOk, OnOk, OnErr};
+ghost use Rattle.unix_names.specs.declared.Pid.{Pid};
+ghost use Rattle.group_record.specs.Members.{member_of, has_member, from_of};
+ghost use Rattle.group_record.specs.Log.{log_part, told};
+ghost use Rattle.group_record.specs.Groups.{joined, left, with_entry, trimmed};
+
+use crate::log::{Allow, LogEntry, drop_front};
+use crate::member::{Member, least_from, lower_each, member_of};
+use unix_names::{NoMemory, Pid, Seq, Signal};
+
+/// The record of a process group.
+#[derive(Debug, Drop)]
+pub struct Group {
+    pub id: Pid,
+    pub session: Pid,
+    /// The processes of the group, ended ones too, in the order in which they joined.
+    pub members: Seq<Member>,
+    /// The signals that were sent to the group and that some member may not have taken.
+    pub log: Seq<LogEntry>,
+    /// How many living members have a parent in the session and outside the group.
+    pub links: u32,
+    /// How many living members are stopped.
+    pub stopped: u32,
+}
+
+impl Group {
+    /// The member of that process id, if there is one.
+    pub fn member_of(&self, p: Pid) -> Option<Member>
+        ensures { result ≡ member_of self.now.members p }
+    {
+        member_of(self.members.as_slice(), p)
+    }
+
+    /// Whether a process is a member.
+    pub fn has_member(&self, p: Pid) -> bool
+        ensures { result ≡ has_member self.now.members p }
+    {
+        self.member_of(p).is_some()
+    }
+
+    /// Whether there are no members. It takes no memory.
+    pub fn is_empty(&self) -> bool
+        ensures { IsTrue result ↔ (self.now.members ≡ []) }
+    {
+        self.members.is_empty()
+    }
+
+    /// Puts a process last among the members. Its part of the log begins at the log's end.
+    pub fn join(&mut self, p: Pid, uid: u32) -> Result<(), NoMemory>
+        requires { has_member self.old.members p ≡ false }
+        ensures ok { OnOk result (self.new ≡ joined self.old p uid) }
+        ensures err { OnErr result (self.new ≡ self.old) }
+        ensures empty_part { OnOk result (log_part p uid self.new ≡ []) }
+        ensures others { OnOk result ((q : Pid) (u : ℕ) → q.0 ≢ p.0 → log_part q u self.new ≡ log_part q u self.old) }
+    {
+        let from = self.log.len() as u64;
+        self.members.push(Member { pid: p, from, uid })?;
+        Ok(())
+    }
+
+    /// Takes a process out of the members; the others keep their order. Tells whether it was there. It takes no memory.
+    pub fn leave(&mut self, p: Pid) -> bool
+        ensures was { result ≡ has_member self.old.members p }
+        ensures left { self.new ≡ left self.old p }
+        ensures others { (q : Pid) (u : ℕ) → q.0 ≢ p.0 → log_part q u self.new ≡ log_part q u self.old }
+    {
+        let was = self.has_member(p);
+        self.members.retain(|m| m.pid != p);
+        was
+    }
+
+    /// Puts a signal at the end of the log. No target means every member.
+    pub fn append(&mut self, signal: Signal, target: Option<Pid>, allow: Allow) -> Result<(), NoMemory>
+        ensures ok { OnOk result (self.new ≡ with_entry self.old (record { signal = signal; target = target; allow = allow })) }
+        ensures err { OnErr result (self.new ≡ self.old) }
+        ensures grows { OnOk result ((p : Pid) (uid : ℕ) → from_of self.old.members p ≤ length self.old.log → log_part p uid self.new ≡ log_part p uid self.old ++ told p uid (record { signal = signal; target = target; allow = allow })) }
+    {
+        self.log.push(LogEntry {
+            signal,
+            target,
+            allow,
+        })?;
+        Ok(())
+    }
+
+    /// Drops from the front of the log what no member has still to take: as many entries as the least `from` says. Each `from` is lowered by that number. It takes no memory.
+    pub fn trim(&mut self)
+        requires { All (λ m. m.from ≤ length self.old.log) self.old.members }
+        ensures trimmed { self.new ≡ trimmed self.old }
+        ensures streams { (p : Pid) (uid : ℕ) → has_member self.old.members p ≡ true → log_part p uid self.new ≡ log_part p uid self.old }
+        ensures within { All (λ m. m.from ≤ length self.new.log) self.new.members }
+    {
+        let least = least_from(self.members.as_slice());
+        lower_each(self.members.as_mut_slice(), least);
+        drop_front(&mut self.log, least as usize);
+    }
+
+    /// An equal record.
+    pub fn copy(&self) -> Result<Group, NoMemory>
+        ensures { IfOk result (λ g. g ≡ self.now) }
+    {
+        let members = self.members.clone()?;
+        let log = self.log.clone()?;
+        Ok(Group {
+            id: self.id,
+            session: self.session,
+            members,
+            log,
+            links: self.links,
+            stopped: self.stopped,
+        })
+    }
+}

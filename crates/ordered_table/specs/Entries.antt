@@ -1,0 +1,39 @@
+-- values by process id
+use Rattle.std.specs.Prelude.{◌<◌, ◌==◌, nat_lt, is_some, Bool, List, [], ◌∷◌, map, Option, Some, None, if◌then◌else◌}
+use Rattle.unix_names.specs.declared.Pid.{Pid}
+use Rattle.ordered_table.specs.declared.entries.Entry.{Entry}
+
+-- the value of an id, if it has one; the search ends at a greater id
+abbrev pub value_at : {T : Type 0} → List (Entry T) → Pid → Option T
+value_at [] p = None
+value_at (e ∷ es) p = if nat_lt e.pid.0 p.0 then value_at es p else (if e.pid.0 == p.0 then Some e.value else None)
+
+-- the entries once an id has this value
+abbrev pub with_value : {T : Type 0} → List (Entry T) → Pid → T → List (Entry T)
+with_value [] p v = (record { pid = p; value = v }) ∷ []
+with_value (e ∷ es) p v =
+    if nat_lt e.pid.0 p.0 then e ∷ with_value es p v
+    else (if e.pid.0 == p.0 then (record { pid = p; value = v }) ∷ es else (record { pid = p; value = v }) ∷ e ∷ es)
+
+-- the entries once an id has no value
+abbrev pub without : {T : Type 0} → List (Entry T) → Pid → List (Entry T)
+without [] p = []
+without (e ∷ es) p = if nat_lt e.pid.0 p.0 then e ∷ without es p else (if e.pid.0 == p.0 then es else e ∷ es)
+
+-- whether an id has a value
+abbrev pub has_value : {T : Type 0} → List (Entry T) → Pid → Bool
+has_value es p = is_some (value_at es p)
+
+-- the ids that have a value, in order
+abbrev pub pids_of : {T : Type 0} → List (Entry T) → List Pid
+pids_of es = map (λ e. e.pid) es
+
+-- every id is above p
+abbrev pub AllAbove : {T : Type 0} → Pid → List (Entry T) → Type 0
+AllAbove p [] = Unit {0}
+AllAbove p (e ∷ es) = (p.0 < e.pid.0) × AllAbove p es
+
+-- the ids rise strictly
+abbrev pub IsRising : {T : Type 0} → List (Entry T) → Type 0
+IsRising [] = Unit {0}
+IsRising (e ∷ es) = AllAbove e.pid es × IsRising es

@@ -1,0 +1,8 @@
+//! The record of a process: its names, its relations, and the signals that were sent to it before it changed groups.
+#![tactic(auto)]
+
+mod children;
+mod vproc;
+
+pub use children::{Children, Full, MOST_CHILDREN};
+pub use vproc::Vproc;
