@@ -7,3 +7,5 @@ pub mod Legal
 pub mod Groups
 pub mod Forks
 pub mod Steps
+pub mod Boot
+pub mod Others

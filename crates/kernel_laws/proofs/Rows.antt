@@ -58,3 +58,16 @@ comes rows keep f same d q c' e =
     let m = mapped_some f (option_filter keep (row_of rows q)) c' (sym (row_moved rows keep f same d q) ∙ e) in
     let k = filtered_some keep (row_of rows q) m.0 m.1 in
     record { from = m.0; there = k.0; passes = k.1; is = m.2 }
+
+-- ---- what a row that is known becomes
+pub row_map : (rows : List Row) (f : Row → Row) → ((c : Row) → (f c).pid ≡ c.pid) → (q : Pid) → row_of (map f rows) q ≡ option_map f (row_of rows q)
+row_map rows f same q = at-map number number f (λ c. ap (λ p. p.0) (same c)) q.0 rows
+
+-- after a map
+pub mapped_is : (rows : List Row) (f : Row → Row) → ((c : Row) → (f c).pid ≡ c.pid) → (q : Pid) (c c' : Row) → row_of rows q ≡ Some c → row_of (map f rows) q ≡ Some c' → c' ≡ f c
+mapped_is rows f same q c c' e e' = some_same c' (f c) (sym e' ∙ row_map rows f same q ∙ ap (option_map f) e)
+
+-- after a filter and a map
+pub moved_is : (rows : List Row) (keep : Row → Bool) (f : Row → Row) → ((c : Row) → (f c).pid ≡ c.pid) → AreDistinct rows → (q : Pid) (c c' : Row) →
+    row_of rows q ≡ Some c → row_of (map f (filter keep rows)) q ≡ Some c' → c' ≡ f c
+moved_is rows keep f same d q c c' e e' = let m = comes rows keep f same d q c' e' in m.is ∙ ap f (some_same m.from c (sym m.there ∙ e))

@@ -13,7 +13,7 @@ kept_choice true x y kx ky = kx
 kept_choice false x y kx ky = ky
 
 -- no signal is in the empty set
-none_in_empty : (s : Signal) → has 0 s ≡ false
+pub none_in_empty : (s : Signal) → has 0 s ≡ false
 none_in_empty Kill = refl
 none_in_empty _ = refl
 
