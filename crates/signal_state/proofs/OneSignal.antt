@@ -1,13 +1,11 @@
 -- what generating one signal does
-use Rattle.std.proofs.Common.{◌≡◌, ◌≢◌, ◌==◌, ◌&&◌, ◌||◌, not, ℕ, Bool, true, false, cond, refl, sym, ap, ◌∙◌, subst}
-use Rattle.std.proofs.lemmas.Bool.{or_cases, and_parts}
+use Rattle.std.proofs.Common.{◌≡◌, ◌==◌, ◌&&◌, ◌||◌, not, ℕ, Bool, true, false, cond, refl, ◌∙◌}
 use Rattle.unix_names.specs.declared.Signal.{Signal}
 use Rattle.unix_names.specs.declared.Signal.TheVariants.{Kill, Cont, Stop, Tstp, Ttin, Ttou}
 use Rattle.unix_names.specs.Signals.{number_of}
 use Rattle.unix_names.specs.Sets.{has, added, removed}
-use Rattle.unix_names.proofs.SetLaws.{has-added, has-removed}
-use Rattle.signal_state.specs.Signals.{Signals, IsKept}
-use Rattle.signal_state.specs.Sig.{generated, kept_pending, is_dropped, with_mask, due_after}
+use Rattle.unix_names.proofs.SetLaws.{has-added}
+use Rattle.signal_state.specs.Sig.{generated, is_dropped}
 use Rattle.signal_state.specs.Laws.{KillAlwaysPends, ContIsOneOrTheOther, ContMakesDue, MaskIsNotRead}
 use Rattle.signal_state.proofs.Kept.{IsWithin, within_removed, not_within, has_not}
 

@@ -1,5 +1,5 @@
 -- what is so of signals by the definitions alone
-use Rattle.std.specs.Prelude.{ℕ, true, false, ◌≡◌, ◌≢◌, List, ◌++◌}
+use Rattle.std.specs.Prelude.{ℕ, true, false, ◌≡◌, List, ◌++◌}
 use Rattle.unix_names.specs.declared.Signal.{Signal}
 use Rattle.unix_names.specs.declared.Signal.TheVariants.{Kill, Stop, Tstp, Ttin, Ttou, Cont}
 use Rattle.unix_names.specs.Sets.{has}

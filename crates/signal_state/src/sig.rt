@@ -192,7 +192,7 @@ impl Sig {
         self.caught = SigSet::empty();
     }
 
-    /// Takes a signal out of what is pending.
+    /// Takes a signal out of what is pending: it is acted on, or discarded.
     pub fn deliver(&mut self, s: Signal)
         ensures { self.new ≡ delivered self.old s }
     {
@@ -213,7 +213,7 @@ impl Sig {
         };
     }
 
-    /// Lets a stopped process run on.
+    /// Lets a stopped process run on; nothing is due any more.
     pub fn resume(&mut self)
         ensures { self.new ≡ resumed self.old }
     {

@@ -1,0 +1,11 @@
+pub mod Rows
+pub mod Plain
+pub mod SignalFacts
+pub mod Changes
+pub mod Ends
+pub mod Legal
+pub mod Groups
+pub mod Forks
+pub mod Steps
+pub mod Boot
+pub mod Others
