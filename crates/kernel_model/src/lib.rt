@@ -1,6 +1,11 @@
 //! The one kernel: a table of processes, what each call may answer, what may happen to a process, and the table afterwards.
 #![tactic(auto)]
 
+mod changes;
+mod ending;
+mod orphans;
+mod refusals;
+mod replies;
 mod rows;
 mod verdict;
 
