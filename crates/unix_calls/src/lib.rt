@@ -2,6 +2,8 @@
 #![tactic(auto)]
 
 mod calls;
+#[cfg(test)]
+mod tests;
 mod turns;
 mod valid;
 mod work;
