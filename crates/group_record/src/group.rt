@@ -3,7 +3,7 @@ ghost use Rattle.std.specs.Prelude.{◌≡◌, ◌≢◌, ◌≤◌, ◌++◌, [
 ghost use Rattle.unix_names.specs.declared.Pid.{Pid};
 ghost use Rattle.group_record.specs.Members.{member_of, has_member, from_of};
 ghost use Rattle.group_record.specs.Log.{log_part, told};
-ghost use Rattle.group_record.specs.Groups.{joined, left, with_entry, trimmed};
+ghost use Rattle.group_record.specs.Groups.{joined, left, with_entry, cut, trimmed};
 
 use crate::log::{Allow, LogEntry, drop_front};
 use crate::member::{Member, least_from, lower_each, member_of};
@@ -92,8 +92,15 @@ impl Group {
         ensures within { All (λ m. m.from ≤ length self.new.log) self.new.members }
     {
         let least = least_from(self.members.as_slice());
-        lower_each(self.members.as_mut_slice(), least);
-        drop_front(&mut self.log, least as usize);
+        self.cut(least);
+    }
+
+    fn cut(&mut self, count: u64)
+        requires { count ≤ length self.old.log }
+        ensures { self.new ≡ cut count self.old }
+    {
+        lower_each(self.members.as_mut_slice(), count);
+        drop_front(&mut self.log, count as usize);
     }
 
     /// An equal record.

@@ -29,14 +29,21 @@ pub(crate) fn least_from(members: &[Member]) -> u64
     }
 }
 
+fn lowered(m: Member, by: u64) -> Member
+    ensures { result ≡ lowered by m }
+{
+    Member {
+        pid: m.pid,
+        from: m.from.saturating_sub(by),
+        uid: m.uid,
+    }
+}
+
+#[tactic(auto, using(std::proofs::lemmas::List::Edits::map_over_more))]
 pub(crate) fn lower_each(members: &mut [Member], by: u64)
     ensures { members.new ≡ map (lowered by) members.old }
 {
     for m in members.iter_mut() {
-        *m = Member {
-            pid: m.pid,
-            from: m.from.saturating_sub(by),
-            uid: m.uid,
-        };
+        *m = lowered(*m, by);
     }
 }
