@@ -6,14 +6,14 @@ use Rattle.std.proofs.lemmas.Bool.{eqb-true, ne_eqb}
 use Rattle.std.proofs.lemmas.List.{drop-drop}
 use Rattle.std.proofs.lemmas.List.Elements.{All-map, All-weaker, All-head}
 use Rattle.list_laws.specs.Keyed.{at}
-use Rattle.list_laws.proofs.Finding.{at-append, at-map, same_number}
+use Rattle.list_laws.proofs.Finding.{at-append, at-map, found, same_number}
 use Rattle.list_laws.proofs.Filters.{some_same}
 use Rattle.unix_names.specs.declared.Pid.{Pid}
 use Rattle.group_record.specs.declared.member.Member.{Member}
 use Rattle.group_record.specs.declared.group.Group.{Group}
-use Rattle.group_record.specs.Members.{member_number, member_of, has_member, from_in, from_of, least_from, lowered}
+use Rattle.group_record.specs.Members.{member_number, member_of, has_member, from_in, from_of, least_from, lowered, begun_at}
 use Rattle.group_record.specs.Log.{concerns, log_part}
-use Rattle.group_record.specs.Groups.{joined, left, cut, trimmed}
+use Rattle.group_record.specs.Groups.{joined, left, cut, trimmed, settled}
 
 -- the part depends on where it begins alone
 same_part : (p : Pid) (uid : ℕ) (g h : Group) → from_of h.members p ≡ from_of g.members p → h.log ≡ g.log → log_part p uid h ≡ log_part p uid g
@@ -119,3 +119,40 @@ pub within-trimmed : (g : Group) → All (λ m. m.from ≤ length g.log) g.membe
 within-trimmed g a =
     All-map (λ m. m.from ≤ length (drop (least_from g.members) g.log)) (lowered (least_from g.members)) g.members
     (All-weaker (λ m. m.from ≤ length g.log) (λ m. (m.from - least_from g.members) ≤ length (drop (least_from g.members) g.log)) (λ m h. simp length-drop (omega arith)) g.members a)
+
+-- ---- settling
+begun_pid : (from : ℕ) (p : Pid) (m : Member) → member_number (begun_at from p m) ≡ member_number m
+begun_pid from p m = go (m.pid.0 == p.0)
+  where
+    go : (b : Bool) → member_number (cond b (record m { from = from }) m) ≡ member_number m
+    go true = refl
+    go false = refl
+
+pub member_of-settled : (g : Group) (p q : Pid) → member_of (settled g p).members q ≡ option_map (begun_at (length g.log) p) (member_of g.members q)
+member_of-settled g p q = at-map member_number member_number (begun_at (length g.log) p) (begun_pid (length g.log) p) q.0 g.members
+
+pub log_part-settled_own : (g : Group) (p : Pid) (uid : ℕ) → has_member g.members p ≡ true → log_part p uid (settled g p) ≡ []
+log_part-settled_own g p uid has = go (member_of g.members p) refl has
+  where
+    go : (o : Option Member) → member_of g.members p ≡ o → is_some o ≡ true → log_part p uid (settled g p) ≡ []
+    go None e h = cc
+    go (Some m) e h =
+        let own : (m.pid.0 == p.0) ≡ true = ap (λ n. n == p.0) (found member_number p.0 g.members m e) ∙ same_number p.0 in
+        ap (λ n. map (λ x. x.signal) (filter (concerns p uid) (drop n g.log))) (ap from_in (member_of-settled g p p ∙ ap (option_map (begun_at (length g.log) p)) e) ∙ ap (λ (b : Bool). (cond b (record m { from = length g.log }) m).from) own)
+        ∙ ap (λ l. map (λ x. x.signal) (filter (concerns p uid) l)) (drop_all g.log)
+
+pub log_part-settled_other : (g : Group) (p q : Pid) (uid : ℕ) → q.0 ≢ p.0 → log_part q uid (settled g p) ≡ log_part q uid g
+log_part-settled_other g p q uid ne = same_part q uid g (settled g p) (ap from_in (member_of-settled g p q) ∙ go (member_of g.members q) refl) refl
+  where
+    go : (o : Option Member) → member_of g.members q ≡ o → from_in (option_map (begun_at (length g.log) p) o) ≡ from_in o
+    go None e = refl
+    go (Some m) e = let apart : (m.pid.0 == p.0) ≡ false = ne_eqb _ _ (λ h. ne (sym (found member_number q.0 g.members m e) ∙ h)) in ap (λ (b : Bool). (cond b (record m { from = length g.log }) m).from) apart
+
+pub within-settled : (g : Group) (p : Pid) → All (λ m. m.from ≤ length g.log) g.members → All (λ m. m.from ≤ length (settled g p).log) (settled g p).members
+within-settled g p a =
+    All-map (λ m. m.from ≤ length g.log) (begun_at (length g.log) p) g.members
+    (All-weaker (λ m. m.from ≤ length g.log) (λ m. (begun_at (length g.log) p m).from ≤ length g.log) (λ m h. go m (m.pid.0 == p.0) h) g.members a)
+  where
+    go : (m : Member) (b : Bool) → m.from ≤ length g.log → (cond b (record m { from = length g.log }) m).from ≤ length g.log
+    go m true h = omega arith
+    go m false h = h

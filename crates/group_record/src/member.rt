@@ -1,6 +1,6 @@
 // The members of a group.
 ghost use Rattle.std.specs.Prelude.{◌≡◌, map};
-ghost use Rattle.group_record.specs.Members.{member_of, least_from, lowered};
+ghost use Rattle.group_record.specs.Members.{member_of, least_from, lowered, begun_at};
 
 use unix_names::Pid;
 
@@ -45,5 +45,27 @@ pub(crate) fn lower_each(members: &mut [Member], by: u64)
 {
     for m in members.iter_mut() {
         *m = lowered(*m, by);
+    }
+}
+
+fn begun_at(from: u64, p: Pid, m: Member) -> Member
+    ensures { result ≡ begun_at from p m }
+{
+    if m.pid == p {
+        Member {
+            pid: m.pid,
+            from,
+            uid: m.uid,
+        }
+    } else {
+        m
+    }
+}
+
+pub(crate) fn begin_at(members: &mut [Member], from: u64, p: Pid)
+    ensures { members.new ≡ map (begun_at from p) members.old }
+{
+    for m in members.iter_mut() {
+        *m = begun_at(from, p, *m);
     }
 }
