@@ -3,17 +3,18 @@ use Rattle.std.proofs.Common.{◌≡◌, ◌≢◌, ◌==◌, ◌≤◌, ◌+◌
 use Rattle.std.specs.Prelude.{map, filter, fold, is_some, All}
 use Rattle.std.specs.Option.{option_map, option_or}
 use Rattle.std.proofs.lemmas.Bool.{eqb-true, ne_eqb}
-use Rattle.std.proofs.lemmas.List.{drop-drop}
-use Rattle.std.proofs.lemmas.List.Elements.{All-map, All-weaker, All-head}
+use Rattle.std.proofs.lemmas.List.{drop-append-le, drop-drop, map-append}
+use Rattle.std.proofs.lemmas.List.Elements.{filter-append, All-map, All-weaker, All-head}
 use Rattle.list_laws.specs.Keyed.{at}
 use Rattle.list_laws.proofs.Finding.{at-append, at-map, found, same_number}
 use Rattle.list_laws.proofs.Filters.{some_same}
 use Rattle.unix_names.specs.declared.Pid.{Pid}
 use Rattle.group_record.specs.declared.member.Member.{Member}
+use Rattle.group_record.specs.declared.log.LogEntry.{LogEntry}
 use Rattle.group_record.specs.declared.group.Group.{Group}
 use Rattle.group_record.specs.Members.{member_number, member_of, has_member, from_in, from_of, least_from, lowered, begun_at}
-use Rattle.group_record.specs.Log.{concerns, log_part}
-use Rattle.group_record.specs.Groups.{joined, left, cut, trimmed, settled}
+use Rattle.group_record.specs.Log.{concerns, told, log_part}
+use Rattle.group_record.specs.Groups.{joined, left, with_entry, cut, trimmed, settled}
 
 -- the part depends on where it begins alone
 same_part : (p : Pid) (uid : ℕ) (g h : Group) → from_of h.members p ≡ from_of g.members p → h.log ≡ g.log → log_part p uid h ≡ log_part p uid g
@@ -68,6 +69,18 @@ member_of-left_other g p q ne = at_left g.members p q ne
 
 pub log_part-left_other : (g : Group) (p q : Pid) (u : ℕ) → q.0 ≢ p.0 → log_part q u (left g p) ≡ log_part q u g
 log_part-left_other g p q u ne = same_part q u g (left g p) (ap from_in (at_left g.members p q ne)) refl
+
+-- ---- appending
+told_is : (b : Bool) (e : LogEntry) → map (λ x. x.signal) (cond b (e ∷ []) []) ≡ cond b (e.signal ∷ []) []
+told_is true e = refl
+told_is false e = refl
+
+pub log_part-appended : (g : Group) (p : Pid) (uid : ℕ) (e : LogEntry) → from_of g.members p ≤ length g.log → log_part p uid (with_entry g e) ≡ log_part p uid g ++ told p uid e
+log_part-appended g p uid e small =
+    ap (λ l. map (λ x. x.signal) (filter (concerns p uid) l)) (drop-append-le (from_of g.members p) g.log (e ∷ []) small)
+    ∙ ap (map (λ x. x.signal)) (filter-append (concerns p uid) (drop (from_of g.members p) g.log) (e ∷ []))
+    ∙ map-append (λ x. x.signal) (filter (concerns p uid) (drop (from_of g.members p) g.log)) (filter (concerns p uid) (e ∷ []))
+    ∙ ap (λ l. log_part p uid g ++ l) (told_is (concerns p uid e) e)
 
 -- ---- trimming
 drop_more : {X : Type 0} (k n : ℕ) (l : List X) → k ≤ n → drop (n - k) (drop k l) ≡ drop n l
