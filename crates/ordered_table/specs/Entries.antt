@@ -1,5 +1,5 @@
 -- values by process id
-use Rattle.std.specs.Prelude.{◌≡◌, ◌≢◌, ℕ, slice_get, slice_set, ◌<◌, ◌==◌, nat_lt, is_some, Bool, List, [], ◌∷◌, map, Option, Some, None, if◌then◌else◌}
+use Rattle.std.specs.Prelude.{◌≡◌, ◌≢◌, ℕ, slice_get, slice_set, ◌<◌, ◌≤◌, ◌==◌, nat_lt, is_some, Bool, List, [], ◌∷◌, map, Option, Some, None, if◌then◌else◌}
 use Rattle.unix_names.specs.declared.Pid.{Pid}
 use Rattle.ordered_table.specs.declared.entries.Entry.{Entry}
 
@@ -36,6 +36,11 @@ pids_of es = map (λ e. e.pid) es
 abbrev pub AllAbove : {T : Type 0} → Pid → List (Entry T) → Type 0
 AllAbove p [] = Unit {0}
 AllAbove p (e ∷ es) = (p.0 < e.pid.0) × AllAbove p es
+
+-- no id is above p
+abbrev pub AllUpTo : {T : Type 0} → Pid → List (Entry T) → Type 0
+AllUpTo p [] = Unit {0}
+AllUpTo p (e ∷ es) = (e.pid.0 ≤ p.0) × AllUpTo p es
 
 -- the ids rise strictly
 abbrev pub IsRising : {T : Type 0} → List (Entry T) → Type 0

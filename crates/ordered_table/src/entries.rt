@@ -1,6 +1,7 @@
 // Entries in rising order of process id.
 ghost use Rattle.std.specs.Prelude.{◌≡◌, ◌<◌, ◌∷◌, [], IfOk, IfErr, IfSome, IfNone, OnOk, OnErr, IsSome, IsOk, None, Some, length, slice_index_or, slice_set};
-ghost use Rattle.ordered_table.specs.Entries.{value_at, with_value, without, IsRising, IsReplacedAt};
+ghost use Rattle.std.specs.List.{last_or};
+ghost use Rattle.ordered_table.specs.Entries.{value_at, with_value, without, pids_of, AllUpTo, AllAbove, IsRising, IsReplacedAt};
 ghost use Rattle.ordered_table.specs.Places.{place, IsFoundAt, IsVacantAt};
 
 use std::alloc::AllocFailed;
@@ -34,6 +35,19 @@ pub fn search<T>(entries: &[Entry<T>], pid: Pid) -> Result<usize, usize>
     } else {
         Err(at)
     }
+}
+
+/// The greatest id among the entries.
+pub fn greatest<T>(entries: &[Entry<T>]) -> Option<Pid>
+    requires { IsRising entries.now }
+    ensures last { result ≡ last_or None (pids_of entries.now) }
+    ensures greatest { IfSome result (λ p. AllUpTo p entries.now) }
+{
+    let count = entries.len();
+    if count == 0 {
+        return None;
+    }
+    Some(entries[count - 1].pid)
 }
 
 /// Puts an entry in the place of another, and gives that one.
@@ -114,9 +128,11 @@ pub fn replace_value_at<T>(entries: &mut Vec<Entry<T>>, at: usize, value: T) -> 
 
 /// Takes the first entry out.
 pub fn pop_first<T>(entries: &mut Vec<Entry<T>>) -> Option<Entry<T>>
+    requires { IsRising entries.old.items }
     ensures some { IfSome result (λ e. entries.old.items ≡ e ∷ entries.new.items) }
     ensures none { IfNone result (entries.old.items ≡ []) }
     ensures none_new { IfNone result (entries.new.items ≡ []) }
+    ensures least { IfSome result (λ e. AllAbove e.pid entries.new.items) }
 {
     if entries.is_empty() {
         None

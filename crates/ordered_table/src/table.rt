@@ -1,9 +1,10 @@
 // A table of values by process id.
-ghost use Rattle.std.specs.Prelude.{◌≡◌, ◌<◌, ◌≢◌, ◌↔◌, [], ◌∷◌, length, IsTrue, IfSome, IfNone, IfErr, IfOk, OnOk, OnErr, IsSome, IsOk, Some, None, slice_get, ◌-◌};
+ghost use Rattle.std.specs.Prelude.{◌≡◌, ◌<◌, ◌≢◌, ◌↔◌, [], ◌∷◌, length, IsTrue, IfSome, IfNone, IfErr, IfOk, OnOk, OnErr, IsSome, IsOk, Some, None};
+ghost use Rattle.std.specs.List.{last_or};
 ghost use Rattle.std.specs.Option.{option_copied};
-ghost use Rattle.ordered_table.specs.Entries.{value_at, with_value, without, has_value, IsRising, SameElsewhere, IsReplacedAt};
+ghost use Rattle.ordered_table.specs.Entries.{value_at, with_value, without, has_value, pids_of, AllUpTo, AllAbove, IsRising, SameElsewhere, IsReplacedAt};
 
-use crate::entries::{Entry, pop_first, put, remove, replace, replace_value_at, search};
+use crate::entries::{Entry, greatest, pop_first, put, remove, replace, replace_value_at, search};
 use std::alloc::Global;
 use std::marker::Model;
 use unix_names::Pid;
@@ -78,12 +79,12 @@ impl<T> Table<T> {
         self.get(pid).is_some()
     }
 
-    /// The entry of the greatest id. None exactly where there is none.
-    pub fn last(&self) -> Option<&Entry<T>>
-        ensures last { option_copied result ≡ slice_get self.now (length self.now - 1) }
-        ensures rising { IsRising self.now }
+    /// The greatest id that has a value. None exactly where none has.
+    pub fn greatest(&self) -> Option<Pid>
+        ensures last { result ≡ last_or None (pids_of self.now) }
+        ensures greatest { IfSome result (λ p. AllUpTo p self.now) }
     {
-        self.entries.as_slice().last()
+        greatest(self.entries.as_slice())
     }
 
     /// Gives the id a value, and returns the one that it had. A value that finds no memory comes back; where the id had a value, no memory is taken.
@@ -135,6 +136,7 @@ impl<T> Table<T> {
         ensures some { IfSome result (λ e. self.old ≡ e ∷ self.new) }
         ensures none { IfNone result (self.old ≡ []) }
         ensures none_new { IfNone result (self.new ≡ []) }
+        ensures least { IfSome result (λ e. AllAbove e.pid self.new) }
     {
         pop_first(&mut self.entries)
     }

@@ -1,5 +1,5 @@
 -- a bag as a map from names to records, present or absent
-use Rattle.std.specs.Prelude.{ℕ, ◌≡◌, ◌-◌, Bool, is_some, List, [], ◌∷◌, ◌++◌, map, drop, length, slice_get, Option, Some, None}
+use Rattle.std.specs.Prelude.{Bool, is_some, List, [], ◌∷◌, ◌++◌, map, drop, Option, Some, None}
 use Rattle.std.specs.Option.{option_map}
 use Rattle.unix_names.specs.declared.Pid.{Pid}
 use Rattle.unix_names.specs.declared.Name.{Name}
@@ -56,10 +56,6 @@ named_group e = (name.G e.pid, held.G e.value)
 -- the names that are held with what is held under them, in order
 abbrev pub all_held : Bag → List (Name × Held)
 all_held bag = map named_vproc bag.vprocs ++ map named_group bag.groups
-
--- the last of a list
-abbrev pub last_of : {X : Type 0} → List X → Option X
-last_of xs = slice_get xs (length xs - 1)
 
 -- the bag without its first process, or else without its first group
 abbrev pub without_first : List (Entry (Option Vproc)) → Bag → Bag

@@ -1,5 +1,5 @@
 -- the order of names
-use Rattle.std.specs.Prelude.{Bool, true, false, nat_lt, List, [], ◌∷◌}
+use Rattle.std.specs.Prelude.{◌≡◌, Bool, true, false, nat_lt, List, [], ◌∷◌}
 use Rattle.unix_names.specs.declared.Name.{Name}
 use Rattle.unix_names.specs.declared.Name.TheVariants.{V, G}
 use Rattle.unix_names.specs.Names.{IsBefore}
@@ -15,6 +15,11 @@ is_before (G g) (G h) = nat_lt g.0 h.0
 abbrev pub AllAfter : Name → List Name → Type 0
 AllAfter n [] = Unit {0}
 AllAfter n (m ∷ ms) = IsBefore n m × AllAfter n ms
+
+-- no name comes after n
+abbrev pub NoneAfter : Name → List Name → Type 0
+NoneAfter n [] = Unit {0}
+NoneAfter n (m ∷ ms) = (is_before n m ≡ false) × NoneAfter n ms
 
 -- each name comes before the next ones, so each stands once
 abbrev pub AreRising : List Name → Type 0

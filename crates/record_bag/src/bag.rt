@@ -1,12 +1,13 @@
 // The records that a courier holds.
-ghost use Rattle.std.specs.Prelude.{◌≡◌, ◌∷◌, [], true, length, slice_get, IfSome, IfErr, OnOk, OnErr};
+ghost use Rattle.std.specs.Prelude.{◌≡◌, ◌∷◌, [], true, None, slice_get, IfSome, IfErr, OnOk, OnErr};
+ghost use Rattle.std.specs.List.{last_or};
 ghost use Rattle.std.specs.Option.{option_copied};
 ghost use Rattle.record_bag.specs.Kinds.{of_kind};
-ghost use Rattle.record_bag.specs.Names.{AreRising};
+ghost use Rattle.record_bag.specs.Names.{AreRising, AllAfter, NoneAfter};
 
 use crate::held::Held;
 use group_record::Group;
-use ordered_table::Table;
+use ordered_table::{Entry, Table};
 use std::alloc::Global;
 use unix_names::{Name, Pid};
 use vproc_record::Vproc;
@@ -19,7 +20,7 @@ pub struct Bag {
 }
 
 impl Bag {
-    ghost use Rattle.record_bag.specs.Bags.{is_held, held_at, with_held, vproc_in, group_in, held_names, all_held, last_of, without_least};
+    ghost use Rattle.record_bag.specs.Bags.{is_held, held_at, with_held, vproc_in, group_in, held_names, all_held, without_least};
 
     /// A bag in which nothing is held.
     pub fn new(alloc: Global) -> Bag
@@ -30,14 +31,6 @@ impl Bag {
             vprocs: Table::new(alloc),
             groups: Table::new(alloc),
         }
-    }
-
-    /// How many names are held.
-    pub fn len(&self) -> usize
-        requires { length (held_names self.now) < 2 ^ 64 }
-        ensures { result ≡ length (held_names self.now) }
-    {
-        self.vprocs.len() + self.groups.len()
     }
 
     /// Whether a name is held, absent records included.
@@ -110,40 +103,43 @@ impl Bag {
         ensures order { AreRising (held_names self.now) }
     {
         let vprocs = self.vprocs.as_slice();
+        let groups = self.groups.as_slice();
         if k < vprocs.len() {
-            return Some(Name::V(vprocs[k].pid));
+            Some(Name::V(vprocs[k].pid))
+        } else if k - vprocs.len() < groups.len() {
+            Some(Name::G(groups[k - vprocs.len()].pid))
+        } else {
+            None
         }
-        let group = self.groups.as_slice().get(k - vprocs.len())?;
-        Some(Name::G(group.pid))
     }
 
     /// The greatest name that is held. None exactly where nothing is held.
     pub fn greatest(&self) -> Option<Name>
-        ensures last { result ≡ last_of (held_names self.now) }
-        ensures order { AreRising (held_names self.now) }
+        ensures last { result ≡ last_or None (held_names self.now) }
+        ensures greatest { IfSome result (λ n. NoneAfter n (held_names self.now)) }
     {
-        match self.groups.last() {
-            Some(entry) => Some(Name::G(entry.pid)),
-            None => {
-                let entry = self.vprocs.last()?;
-                Some(Name::V(entry.pid))
-            }
+        match self.groups.greatest() {
+            Some(pid) => Some(Name::G(pid)),
+            None => match self.vprocs.greatest() {
+                Some(pid) => Some(Name::V(pid)),
+                None => None,
+            },
         }
     }
 
     /// Takes out the least name that is held, with its record. None exactly where nothing is held.
     pub fn take_least(&mut self) -> Option<(Name, Held)>
-        ensures least { result ≡ slice_get (all_held self.old) 0 }
+        ensures first { result ≡ slice_get (all_held self.old) 0 }
         ensures rest { self.new ≡ without_least self.old }
         ensures left { IfSome result (λ x. all_held self.old ≡ x ∷ all_held self.new) }
-        ensures order { AreRising (held_names self.old) }
+        ensures least { IfSome result (λ x. AllAfter x.0 (held_names self.new)) }
     {
         match self.vprocs.pop_first() {
-            Some(entry) => Some((Name::V(entry.pid), Held::V(entry.value))),
-            None => {
-                let entry = self.groups.pop_first()?;
-                Some((Name::G(entry.pid), Held::G(entry.value)))
-            }
+            Some(Entry { pid, value }) => Some((Name::V(pid), Held::V(value))),
+            None => match self.groups.pop_first() {
+                Some(Entry { pid, value }) => Some((Name::G(pid), Held::G(value))),
+                None => None,
+            },
         }
     }
 }
