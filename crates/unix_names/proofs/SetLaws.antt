@@ -150,7 +150,7 @@ same-signals n m hn hm same = same_from_bits n m (λ k.
 pub found-least : (n : ℕ) (s : Signal) → find (has n) all_signals ≡ Some s → IsLeast n s
 found-least n s e = record {
   member = find-passes (has n) all_signals s e;
-  least = λ t in_set. first-least (λ k. bit_at n k == 1) all_signals all_rising s e t (all_listed t) in_set
+  least = λ t in_set. first-least (λ k. bit_at n k == 1) all_signals all_rising s e t (all_listed t) in_set;
 }
 
 pub found-none : (n : ℕ) → IsSignals n → find (has n) all_signals ≡ None → n ≡ 0

@@ -60,12 +60,12 @@ signal_of-is n s = (number_of-signal_of n s, λ e. rw (← e) (signal_of-number_
 -- a number that no signal has
 pub signal_of-none : (n : ℕ) → IsNone (signal_of n) ↔ ((s : Signal) → number_of s ≢ n)
 signal_of-none n = (
-    (λ none s e. let some = (signal_of-is n s).1 e in let other = rw some at none in absurd (cc)),
-    (λ other. elim (signal_of n) as (λ o. signal_of n ≡ o → IsNone o) [
-      | None ↦ λ w. refl
-      | Some s ↦ λ w. absurd (other s (number_of-signal_of n s w))
-    ] refl),
-  )
+  (λ none s e. let some = (signal_of-is n s).1 e in let other = rw some at none in absurd (cc)),
+  (λ other. elim (signal_of n) as (λ o. signal_of n ≡ o → IsNone o) [
+    | None ↦ λ w. refl
+    | Some s ↦ λ w. absurd (other s (number_of-signal_of n s w))
+  ] refl),
+)
 
 -- the signal of a signal's word is that signal
 pub signal_named-word_of : (s : Signal) → signal_named (word_of s) ≡ Some s
@@ -102,12 +102,12 @@ signal_named-is word s = (word_of-signal_named word s, λ e. rw (← e) (signal_
 -- a word that no signal has
 pub signal_named-none : (word : List ℕ) → IsNone (signal_named word) ↔ ((s : Signal) → word_of s ≢ word)
 signal_named-none word = (
-    (λ none s e. let some = (signal_named-is word s).1 e in let other = rw some at none in absurd (cc)),
-    (λ other. elim (signal_named word) as (λ o. signal_named word ≡ o → IsNone o) [
-      | None ↦ λ w. refl
-      | Some s ↦ λ w. absurd (other s (word_of-signal_named word s w))
-    ] refl),
-  )
+  (λ none s e. let some = (signal_named-is word s).1 e in let other = rw some at none in absurd (cc)),
+  (λ other. elim (signal_named word) as (λ o. signal_named word ≡ o → IsNone o) [
+    | None ↦ λ w. refl
+    | Some s ↦ λ w. absurd (other s (word_of-signal_named word s w))
+  ] refl),
+)
 
 -- no two signals have one word
 pub word_of-distinct : (s t : Signal) → word_of s ≡ word_of t → s ≡ t
