@@ -9,3 +9,4 @@ pub mod Forks
 pub mod Steps
 pub mod Boot
 pub mod Others
+pub mod Own
