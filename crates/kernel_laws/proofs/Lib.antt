@@ -10,3 +10,5 @@ pub mod Steps
 pub mod Boot
 pub mod Others
 pub mod Own
+pub mod Forms
+pub mod Leaders
