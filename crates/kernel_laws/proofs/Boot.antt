@@ -173,16 +173,16 @@ still_free rows x q (start ∷ starts) is absent free = (
   still_free rows x q starts is (absent_rest start_pid q start starts absent) free.1,
 )
 
-booted_first : (rows : List Row) (starts : List Start) → IsFirst rows → Distinct start_pid starts → All IsOwnPid starts → AreFree rows starts → IsFirst (booted rows starts)
+pub booted_first : (rows : List Row) (starts : List Start) → IsFirst rows → Distinct start_pid starts → All IsOwnPid starts → AreFree rows starts → IsFirst (booted rows starts)
 booted_first rows [] first d own free = first
 booted_first rows (start ∷ starts) first d own free =
     booted_first (rows ++ first_row rows start ∷ []) starts (started rows start first (All-head IsOwnPid start starts own) free.0) d.1 (All-tail IsOwnPid start starts own) (still_free rows (first_row rows start) start.pid.0 starts refl d.0 free.1)
 
-all_free : (starts : List Start) → AreFree [] starts
+pub all_free : (starts : List Start) → AreFree [] starts
 all_free [] = tt
 all_free (start ∷ starts) = (refl, all_free starts)
 
-empty_first : IsFirst []
+pub empty_first : IsFirst []
 empty_first = record { distinct = tt; each = λ c e. cc }
 
 pub boot_sound : BootIsSound

@@ -15,22 +15,16 @@ use Rattle.list_laws.specs.Keyed.{at, one_if}
 use Rattle.list_laws.proofs.Finding.{at-append, comes-append, distinct-append}
 use Rattle.list_laws.proofs.Elements.{any_no}
 use Rattle.list_laws.proofs.Counts.{count-append}
+use Rattle.kernel_laws.specs.Effects.{IsUnused}
 use Rattle.kernel_laws.proofs.Rows.{number, distinct_from, distinct_to, pid_same, row_pid, row_here}
 use Rattle.kernel_laws.proofs.SignalFacts.{kept-child}
 use Rattle.kernel_laws.proofs.Legal.{not_true}
 
 -- ---- a fresh number
-pub record IsFresh (rows : List Row) (n : ℕ) : Type 0 where
-  pub least : 2 ≤ n
-  pub somebody : n ≢ 999999
-  pub no_pid : (c : Row) → row_of rows c.pid ≡ Some c → c.pid.0 ≢ n
-  pub no_group : (c : Row) → row_of rows c.pid ≡ Some c → c.group.0 ≢ n
-  pub no_session : (c : Row) → row_of rows c.pid ≡ Some c → c.session.0 ≢ n
-
 differs : (a b : ℕ) → (a == b) ≡ false → a ≢ b
 differs a b f = λ e. let t : (a == b) ≡ true = eq-eqb a b e in cc
 
-pub fresh_number : (rows : List Row) (n : ℕ) → is_fresh rows n ≡ true → IsFresh rows n
+pub fresh_number : (rows : List Row) (n : ℕ) → is_fresh rows n ≡ true → IsUnused rows n
 fresh_number rows n e =
     let a = and_parts (nat_le 2 n) (not (n == 999999) && not (list_any (uses_number n) rows)) e in
     let b = and_parts (not (n == 999999)) (not (list_any (uses_number n) rows)) a.1 in
@@ -51,7 +45,7 @@ fresh_number rows n e =
         (a.0, b.0, b.1)
 
 -- no row has the number
-no_row : (rows : List Row) (n : ℕ) → IsFresh rows n → row_of rows (pid n) ≡ None
+no_row : (rows : List Row) (n : ℕ) → IsUnused rows n → row_of rows (pid n) ≡ None
 no_row rows n fresh = go (row_of rows (pid n)) refl
   where
     go : (o : Option Row) → row_of rows (pid n) ≡ o → o ≡ None
@@ -62,7 +56,7 @@ alive_append : (o later : Option Row) → IsAlive o → IsAlive (option_or o lat
 alive_append None later a = absurd a
 alive_append (Some c) later a = a
 
-module _ (rows : List Row) (r : Row) (n : ℕ) (sound : IsSound rows) (there : row_of rows r.pid ≡ Some r) (lives : is_living r.life ≡ true) (room : child_count rows r.pid < 64) (fresh : IsFresh rows n) where
+module _ (rows : List Row) (r : Row) (n : ℕ) (sound : IsSound rows) (there : row_of rows r.pid ≡ Some r) (lives : is_living r.life ≡ true) (room : child_count rows r.pid < 64) (fresh : IsUnused rows n) where
   abbrev now : List Row
   now = rows ++ newborn r n ∷ []
 

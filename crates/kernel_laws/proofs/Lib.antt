@@ -9,3 +9,6 @@ pub mod Forks
 pub mod Steps
 pub mod Boot
 pub mod Others
+pub mod Own
+pub mod Forms
+pub mod Leaders

@@ -2,6 +2,7 @@
 #![tactic(auto)]
 
 ghost use Rattle.kernel_laws.specs.Tables.{StepKeepsSound, BootIsSound, LegalTablesAreSound};
+ghost use Rattle.kernel_laws.specs.Groups.{SessionsAreLed, OrphanedStays};
 ghost use Rattle.kernel_laws.specs.Effects.{OthersAreSignalled, OwnSignals, KillSignalsOnce, ForkIsFresh};
 
 /// Each legal step from a table that can come about leads to one.
@@ -29,4 +30,14 @@ pub fn kill_signals_once()
 /// The pid of a forked process is no pid, group or session of the table; its row comes last, with the caller's user, group and session, and nothing pending.
 pub fn fork_is_fresh()
     ensures { ForkIsFresh }
+{}
+
+/// In each table of a legal history, where the id of a session is the pid of a process, that process leads the session and its own group.
+pub fn sessions_are_led()
+    ensures { SessionsAreLed }
+{}
+
+/// An orphaned group stays orphaned, but where a setpgid takes a member out or puts one in.
+pub fn orphaned_stays()
+    ensures { OrphanedStays }
 {}
