@@ -1,10 +1,10 @@
 -- entries that rise as a map from ids to values
-use Rattle.std.proofs.Common.{Result, Ok, Err, OnOk, OnErr, slice_get, ◌≡◌, ◌≢◌, ◌==◌, ◌<◌, ◌≤◌, ◌+◌, ℕ, zero, suc, Bool, true, false, nat_lt, List, [], ◌∷◌, length, get_or, set, map, sym, ap, ◌∙◌, subst, refl, arith, Some, None, if◌then◌else◌, Option}
+use Rattle.std.proofs.Common.{is_some, Result, Ok, Err, OnOk, OnErr, slice_get, ◌≡◌, ◌≢◌, ◌==◌, ◌<◌, ◌≤◌, ◌+◌, ℕ, zero, suc, Bool, true, false, nat_lt, List, [], ◌∷◌, length, get_or, set, map, sym, ap, ◌∙◌, subst, refl, arith, Some, None, if◌then◌else◌, Option}
 use Rattle.std.specs.Option.{option_map}
 use Rattle.std.proofs.lemmas.Bool.{eq-eqb, ne_eqb, ltb-true, ltb-false, eqb-true, eqb-false, lt-ltb, le-ltb}
 use Rattle.unix_names.specs.declared.Pid.{Pid}
 use Rattle.ordered_table.specs.declared.entries.Entry.{Entry}
-use Rattle.ordered_table.specs.Entries.{value_at, with_value, without, with_each, AllAbove, IsRising, SameElsewhere}
+use Rattle.ordered_table.specs.Entries.{value_at, has_value, pids_of, with_value, without, with_each, AllAbove, IsRising, SameElsewhere}
 
 -- a value with its id
 abbrev entry : {T : Type 0} → Pid → T → Entry T
@@ -162,3 +162,38 @@ pub IsRising-set : {T : Type 0} (es : List (Entry T)) (i : ℕ) (e : Entry T) (v
 IsRising-set [] i e v there r = tt
 IsRising-set (x ∷ es) zero e v there r = (let h : x ≡ e = cc in subst (λ (y : Entry _). AllAbove y.pid es) h r.0, r.1)
 IsRising-set (x ∷ es) (suc i) e v there r = (AllAbove-set x.pid es i e v there r.0, IsRising-set es i e v there r.1)
+
+pids-put-by : {T : Type 0} (e : Entry T) (es : List (Entry T)) (p : Pid) (v : T) (b c : Bool) → (e.pid.0 == p.0) ≡ c → is_some (if b then value_at es p else (if c then Some e.value else None)) ≡ true → (has_value es p ≡ true → pids_of (with_value es p v) ≡ pids_of es) →
+    pids_of (if b then e ∷ with_value es p v else (if c then entry p v ∷ es else entry p v ∷ e ∷ es)) ≡ e.pid ∷ pids_of es
+pids-put-by e es p v true c same has rest = ap (λ ps. e.pid ∷ ps) (rest has)
+pids-put-by e es p v false true same has rest = let s : p ≡ e.pid = ap (λ (n : ℕ). record { 0 = n }) (sym (eqb-true e.pid.0 p.0 same)) in ap (λ q. q ∷ pids_of es) s
+pids-put-by e es p v false false same has rest = cc
+
+-- a value in the place of another leaves the ids
+pub pids-put : {T : Type 0} (es : List (Entry T)) (p : Pid) (v : T) → has_value es p ≡ true → pids_of (with_value es p v) ≡ pids_of es
+pids-put [] p v has = cc
+pids-put (e ∷ es) p v has = pids-put-by e es p v (nat_lt e.pid.0 p.0) (e.pid.0 == p.0) refl has (pids-put es p v)
+
+-- a change of every value leaves the ids
+pub pids-with_each : {A B : Type 0} (f : Pid → A → B) (es : List (Entry A)) → pids_of (with_each f es) ≡ pids_of es
+pids-with_each f [] = refl
+pids-with_each f (e ∷ es) = ap (λ ps. e.pid ∷ ps) (pids-with_each f es)
+
+has_value-in : {T : Type 0} (e : Entry T) (es : List (Entry T)) (p : Pid) (b c : Bool) →
+    is_some (if b then value_at es p else (if c then Some e.value else None)) ≡ (if b then has_value es p else c)
+has_value-in e es p true c = refl
+has_value-in e es p false true = refl
+has_value-in e es p false false = refl
+
+-- the ids alone tell which have a value
+pub has_value-pids : {A B : Type 0} (es : List (Entry A)) (fs : List (Entry B)) (p : Pid) → pids_of es ≡ pids_of fs → has_value es p ≡ has_value fs p
+has_value-pids [] [] p same = refl
+has_value-pids [] (f ∷ fs) p same = cc
+has_value-pids (e ∷ es) [] p same = cc
+has_value-pids (e ∷ es) (f ∷ fs) p same =
+    let first : e.pid ≡ f.pid = cc in
+    let others : pids_of es ≡ pids_of fs = cc in
+    has_value-in e es p (nat_lt e.pid.0 p.0) (e.pid.0 == p.0)
+    ∙ (ap (λ (q : Pid). if nat_lt q.0 p.0 then has_value es p else (q.0 == p.0)) first
+    ∙ (ap (λ b. if nat_lt f.pid.0 p.0 then b else (f.pid.0 == p.0)) (has_value-pids es fs p others)
+    ∙ sym (has_value-in f fs p (nat_lt f.pid.0 p.0) (f.pid.0 == p.0))))

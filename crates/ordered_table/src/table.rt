@@ -109,6 +109,7 @@ impl<T> Table<T> {
         ensures after { self.new ≡ with_value self.old pid value }
         ensures found { value_at self.new pid ≡ Some value }
         ensures others { SameElsewhere pid self.old self.new }
+        ensures ids { pids_of self.new ≡ pids_of self.old }
     {
         replace(&mut self.entries, pid, value)
     }

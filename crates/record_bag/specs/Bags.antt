@@ -1,5 +1,5 @@
 -- a bag as a map from names to records, present or absent
-use Rattle.std.specs.Prelude.{Bool, is_some, List, [], ◌∷◌, ◌++◌, map, drop, Option, Some, None}
+use Rattle.std.specs.Prelude.{◌≡◌, ◌≢◌, Bool, is_some, List, [], ◌∷◌, ◌++◌, map, drop, Option, Some, None}
 use Rattle.std.specs.Option.{option_map}
 use Rattle.unix_names.specs.declared.Pid.{Pid}
 use Rattle.unix_names.specs.declared.Name.{Name}
@@ -65,3 +65,7 @@ without_first (e ∷ es) bag = record bag { vprocs = es }
 -- the bag without its least name
 abbrev pub without_least : Bag → Bag
 without_least bag = without_first bag.vprocs bag
+
+-- under every name but n the same is held before and after
+abbrev pub SameElsewhere : Name → Bag → Bag → Type 0
+SameElsewhere n old new = (m : Name) → m ≢ n → held_at new m ≡ held_at old m

@@ -1,5 +1,5 @@
 // The records that a courier holds.
-ghost use Rattle.std.specs.Prelude.{◌≡◌, ◌∷◌, [], true, None, slice_get, IfSome, IfErr, OnOk, OnErr};
+ghost use Rattle.std.specs.Prelude.{◌≡◌, ◌∷◌, [], true, None, Some, slice_get, IfSome, IfErr, OnOk, OnErr};
 ghost use Rattle.std.specs.List.{last_or};
 ghost use Rattle.std.specs.Option.{option_copied};
 ghost use Rattle.record_bag.specs.Kinds.{of_kind};
@@ -20,7 +20,7 @@ pub struct Bag {
 }
 
 impl Bag {
-    ghost use Rattle.record_bag.specs.Bags.{is_held, held_at, with_held, vproc_in, group_in, held_names, all_held, without_least};
+    ghost use Rattle.record_bag.specs.Bags.{is_held, held_at, with_held, vproc_in, group_in, held_names, all_held, without_least, SameElsewhere};
 
     /// A bag in which nothing is held.
     pub fn new(alloc: Global) -> Bag
@@ -67,6 +67,10 @@ impl Bag {
     /// Refused for want of memory alone; the record then comes back.
     pub fn put(&mut self, name: Name, held: Held) -> Result<(), Held>
         ensures ok { OnOk result (self.new ≡ with_held self.old name held) }
+
+        // The record is held afterwards, and under the other names the same as before.
+        ensures held { OnOk result (held_at self.new name ≡ Some (of_kind name held)) }
+        ensures others { OnOk result (SameElsewhere name self.old self.new) }
         ensures back { IfErr result (λ h. h ≡ of_kind name held) }
         ensures err { OnErr result (self.new ≡ self.old) }
     {
@@ -85,7 +89,12 @@ impl Bag {
     /// Holds another record under a name that is held. A record of the other kind counts as absent. It takes no memory.
     pub fn set(&mut self, name: Name, held: Held)
         requires { is_held self.old name ≡ true }
-        ensures { self.new ≡ with_held self.old name held }
+        ensures set { self.new ≡ with_held self.old name held }
+
+        // The record is held afterwards, under the other names the same as before, and the same names.
+        ensures held { held_at self.new name ≡ Some (of_kind name held) }
+        ensures others { SameElsewhere name self.old self.new }
+        ensures names { held_names self.new ≡ held_names self.old }
     {
         match name {
             Name::V(pid) => {
