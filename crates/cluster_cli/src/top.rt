@@ -103,3 +103,106 @@ fn put<K: Sink>(sink: &mut K, bytes: &[u8], status: Status) -> Status
         Err(_) => Status::WriteFault,
     }
 }
+
+#[cfg(test)]
+mod tests {
+    use super::*;
+    use byte_ends::{MemSink, MemSource, NoHold};
+    use std::process::Abort;
+    use std::test::Fail;
+
+    const SMALLEST: &str = "cluster 1\nscript a\nend\nstart 0 a p\n";
+
+    const NAMES: &str = "cluster 1\nscript a\ngetpid\ngetppid\nexit 5\nend\nstart 0 a p\n";
+
+    const THREE_WORDS: &str = "cluster 1 1\nscript a\ngetpid\ngetppid\nexit 5\nend\nstart 0 a p\n";
+
+    // One call: what it gets, what fails, and what it answers.
+    #[derive(Clone, Copy)]
+    struct Case<'a> {
+        words: &'a [&'a str],
+        input: &'a [u8],
+        read_fails: &'a [u64],
+        write_fails: &'a [u64],
+        most: usize,
+        status: Status,
+        output: &'a str,
+    }
+
+    fn plain<'a>(words: &'a [&'a str], input: &'a [u8], status: Status, output: &'a str) -> Case<'a>
+        ensures { result.most ≡ 100 }
+    {
+        Case {
+            words,
+            input,
+            read_fails: &[],
+            write_fails: &[],
+            most: 100,
+            status,
+            output,
+        }
+    }
+
+    fn check<R: AllocGlobal + Abort>(rt: &R, case: Case) -> Result<(), Fail>
+        requires { 1 ≤ case.most }
+    {
+        let alloc = rt.alloc();
+        let mut source = MemSource::new(
+            Vec::from_slice(alloc, case.input)?,
+            Vec::from_slice(alloc, case.read_fails)?,
+        );
+        let fails = Vec::from_slice(alloc, case.write_fails)?;
+        let mut sink = MemSink::new(alloc, 1000, case.most, fails).map_err(|_| Fail::from(
+            "no memory",
+        ))?;
+        let status = vproc_top(alloc, case.words, &mut source, &mut sink, &NoHold);
+        assert_eq!(rt; status, case.status, "at {}", case.output);
+        assert_eq!(rt; sink.bytes(), case.output.as_bytes());
+        Ok(())
+    }
+
+    #[test]
+    fn answers(rt: HostRuntime) -> Result<(), Fail> {
+        let replay = ["replay"];
+        check(
+            &rt,
+            plain(
+                &replay,
+                SMALLEST.as_bytes(),
+                Status::Done,
+                "2 exit 0\nquiet\n",
+            ),
+        )?;
+        let names = "2 getpid = 2\n2 getppid = 1\n2 exit 5\nquiet\n";
+        check(&rt, plain(&replay, NAMES.as_bytes(), Status::Done, names))?;
+        let refused = plain(&replay, THREE_WORDS.as_bytes(), Status::BadFile, BAD_FILE);
+        check(&rt, refused)?;
+        check(&rt, plain(&replay, b"", Status::BadFile, BAD_FILE))
+    }
+
+    #[test]
+    fn refuses_words(rt: HostRuntime) -> Result<(), Fail> {
+        let input = SMALLEST.as_bytes();
+        check(&rt, plain(&["run", "9"], input, Status::BadWords, ""))?;
+        check(&rt, plain(&["replay", "x"], input, Status::BadWords, ""))?;
+        check(
+            &rt,
+            plain(&["make", "0", "0", "1"], input, Status::BadWords, ""),
+        )?;
+        check(&rt, plain(&[], input, Status::BadWords, ""))
+    }
+
+    #[test]
+    fn tells_faults(rt: HostRuntime) -> Result<(), Fail> {
+        let replay = ["replay"];
+        let long = vec![in rt.alloc(); b'a'; INPUT_LIMIT + 1]?;
+        check(&rt, plain(&replay, &long, Status::TooLong, ""))?;
+        let mut unread = plain(&replay, SMALLEST.as_bytes(), Status::ReadFault, "");
+        unread.read_fails = &[1];
+        check(&rt, unread)?;
+        let mut unwritten = plain(&replay, SMALLEST.as_bytes(), Status::WriteFault, "2 exit 0");
+        unwritten.most = 4;
+        unwritten.write_fails = &[3];
+        check(&rt, unwritten)
+    }
+}

@@ -43,7 +43,7 @@ returns-clause-done g c = λ e.
     let output = c.in-Ok-put_history.text.items in
     let writes = c.in-Ok-put_history.ensures ∙ ap (λ (history : List Entry). text history true) c.deref.ensures.value in
     let runs = runs_made c.args.input.now c.in-Ok.world c.in-Ok-run_one.entries.items output c.requires c.in-Ok.ensures.found
-        c.in-Ok-run_one.ensures.runs c.in-Ok-run_one.ensures.legal c.in-Ok-run_one.ensures.follows writes in
+    c.in-Ok-run_one.ensures.runs c.in-Ok-run_one.ensures.legal c.in-Ok-run_one.ensures.follows writes in
     (output, runs, rw c.deref-in-Ok-put_history.ensures.value at (c.put-in-Ok-put_history.ensures.whole e))
 
 pub returns-clause-write_fault : goal.returns-clause-write_fault
@@ -52,5 +52,5 @@ returns-clause-write_fault g c = λ e.
     let output = c.in-Ok-put_history.text.items in
     let writes = c.in-Ok-put_history.ensures ∙ ap (λ (history : List Entry). text history true) c.deref.ensures.value in
     let runs = runs_made c.args.input.now c.in-Ok.world c.in-Ok-run_one.entries.items output c.requires c.in-Ok.ensures.found
-        c.in-Ok-run_one.ensures.runs c.in-Ok-run_one.ensures.legal c.in-Ok-run_one.ensures.follows writes in
+    c.in-Ok-run_one.ensures.runs c.in-Ok-run_one.ensures.legal c.in-Ok-run_one.ensures.follows writes in
     (fault.0, (output, fault.1.0, inl runs, rw c.deref-in-Ok-put_history.ensures.value at fault.1.1))

@@ -19,21 +19,24 @@ returns-in-Ok-clause-answered g c =
       write_fault = λ e. let fault = c.answer.ensures.write_fault e in (fault.0, record { input = bytes; read = read; writes = fault.1 });
       no_memory = search rules;
       runs = λ input world told short form source_fine sink_fine.
-        let all = read_whole left left' bytes input told read.consumed read.ended in
-        let form' = subst (λ (b : List ℕ). IsForm b world) (sym all) form in
-        elim c.answer.ensures.some [
-            inl done ↦ inl done
+          let all = read_whole left left' bytes input told read.consumed read.ended in
+          let form' = subst (λ (b : List ℕ). IsForm b world) (sym all) form in
+          elim c.answer.ensures.some [
+            | inl done ↦ inl done
             | inr (inl bad) ↦ absurd ((c.answer.ensures.bad_file bad).1.means_nothing world form')
             | inr (inr (inl fault)) ↦ absurd (sink_fine (c.answer.ensures.write_fault fault).0)
-            | inr (inr (inr memory)) ↦ inr memory ];
+            | inr (inr (inr memory)) ↦ inr memory
+          ];
       refuses = λ input told short means_nothing source_fine sink_fine.
-        let all = read_whole left left' bytes input told read.consumed read.ended in
-        elim c.answer.ensures.some [
-            inl done ↦ (let runs = (c.answer.ensures.done done).1 in absurd (means_nothing runs.world (subst (λ (b : List ℕ). IsForm b runs.world) all runs.reads)))
+          let all = read_whole left left' bytes input told read.consumed read.ended in
+          elim c.answer.ensures.some [
+            | inl done ↦ (let runs = (c.answer.ensures.done done).1 in absurd (means_nothing runs.world (subst (λ (b : List ℕ). IsForm b runs.world) all runs.reads)))
             | inr (inl bad) ↦ inl bad
             | inr (inr (inl fault)) ↦ absurd (sink_fine (c.answer.ensures.write_fault fault).0)
-            | inr (inr (inr memory)) ↦ inr memory ];
+            | inr (inr (inr memory)) ↦ inr memory
+          ];
       tells_length = λ input told long source_fine.
-        let all = read_whole left left' bytes input told read.consumed read.ended in
-        let lengths = ap length (sym same ∙ all) in
-        absurd (omega (arith, c.in-Ok.ensures.short, lengths, long)) }
+          let all = read_whole left left' bytes input told read.consumed read.ended in
+          let lengths = ap length (sym same ∙ all) in
+          absurd (omega (arith, c.in-Ok.ensures.short, lengths, long));
+    }
