@@ -1,21 +1,31 @@
 // A process that changes groups, and one that has taken all.
-ghost use Rattle.std.specs.Prelude.{◌≡◌, ◌≢◌, ◌++◌, [], ℕ, false, Some, length, take, OnOk, OnErr};
+ghost use Rattle.std.specs.Prelude.{◌≡◌, ◌≢◌, ◌++◌, [], ◌↔◌, ℕ, false, length, IsTrue, take, OnOk, OnErr};
 ghost use Rattle.unix_names.specs.declared.Pid.{Pid};
-ghost use Rattle.group_record.specs.Members.{uid_of, has_member};
+ghost use Rattle.group_record.specs.Members.{has_member};
 ghost use Rattle.group_record.specs.Log.{log_part};
 ghost use Rattle.group_record.specs.Groups.{joined, left, settled};
-ghost use Rattle.sig_stream.specs.Streams.{stream, tail, signals_for, regrouped};
+ghost use Rattle.sig_stream.specs.Streams.{IsListed, stream, tail, signals_for, regrouped};
 
 use group_record::{Group, LogEntry};
 use signal_state::Own;
 use unix_names::{NoMemory, Pid, Seq, Signal};
 use vproc_record::Vproc;
 
+/// Whether a process is a member of a group under its user id. It takes no memory.
+pub fn is_listed(v: &Vproc, g: &Group) -> bool
+    ensures { IsTrue result ↔ IsListed v.now g.now }
+{
+    match g.member_of(v.pid) {
+        None => false,
+        Some(m) => m.uid == v.uid,
+    }
+}
+
 /// Moves a process from one group to another. Its stream stays the same list: what the old log has for it goes to the backlog, and its part of the new log begins at that log's end.
 ///
 /// After NoMemory the three records are as before.
 pub fn regroup(v: &mut Vproc, from: &mut Group, to: &mut Group) -> Result<(), NoMemory>
-    requires listed { uid_of from.old.members v.old.pid ≡ Some v.old.uid }
+    requires listed { IsListed v.old from.old }
     requires absent { has_member to.old.members v.old.pid ≡ false }
     ensures process { OnOk result (v.new ≡ regrouped v.old from.old to.old.id) }
     ensures from { OnOk result (from.new ≡ left from.old v.old.pid) }
@@ -42,7 +52,7 @@ pub fn regroup(v: &mut Vproc, from: &mut Group, to: &mut Group) -> Result<(), No
 
 /// Forgets a stream that was taken whole: the backlog is emptied, the process's part of the log begins at the log's end, and nothing counts as taken. It takes no memory.
 pub fn settle(own: &mut Own, v: &mut Vproc, g: &mut Group)
-    requires listed { uid_of g.old.members v.old.pid ≡ Some v.old.uid }
+    requires listed { IsListed v.old g.old }
     requires tail { tail own.old.taken v.old g.old ≡ [] }
     ensures own { own.new ≡ record own.old { taken = 0 } }
     ensures process { v.new ≡ record v.old { backlog = [] } }
