@@ -1,8 +1,9 @@
-use Rattle.std.proofs.Common.{sym, ◌∙◌, false, ◌⊎◌, inl, inr, ◌/◌, ◌≡◌, ◌≢◌, ◌==◌, ◌||◌, ◌&&◌, not, ℕ, ◌-◌, ◌*◌, ◌^◌, ◌%◌, ◌<◌, bit_and, bit_or, refl, arith, max, min, lit<}
+use Rattle.std.proofs.Common.{sym, ◌∙◌, false, ◌⊎◌, inl, inr, ◌/◌, ◌≡◌, ◌≢◌, ◌==◌, ◌||◌, ◌&&◌, not, ℕ, ◌-◌, ◌*◌, ◌^◌, ◌%◌, ◌<◌, bit_and, bit_or, bit_xor, refl, arith, max, min, lit<}
 use Rattle.std.proofs.lemmas.Bool.{cases_eq, eq-eqb, ne_eqb}
 use Rattle.std.proofs.lemmas.Bool.Decides.{nat_tests}
 use Rattle.std.specs.Int.{bit_at}
-use Rattle.std.proofs.lemmas.Nat.Bits.{bit_at_or, bit_at_and, bit_at-lt, bit_at-zero, bit_at-pow_same, bit_at-pow_other, bit_at_not, bit_at_above, same_from_bits}
+use Rattle.std.proofs.lemmas.Nat.Bits.{bit_at_or, bit_at_and, bit_at_xor, bit_at-lt, bit_at-zero, bit_at-pow_same, bit_at-pow_other, bit_at_not, same_from_bits, same_from_bits_below}
+use Rattle.std.proofs.lemmas.Nat.{and_le_l}
 use Rattle.std.specs.Int.{w32}
 use Rattle.std.specs.Prelude.{IsSome, IsNone, Some, None, find, ◌↔◌}
 use Rattle.unix_names.specs.Sets.{has, added, removed, minus, IsSignals, IsLeast}
@@ -100,16 +101,28 @@ pub has-removed : (n : ℕ) (s t : Signal) → has (removed n s) t ≡ (has n t 
 unfolding removed
 has-removed n s t = let a : 2 ^ number_of s < 16777216 = pow_small s in bit_removed n (number_of s) (number_of t) (number_small s) (number_small t) (omega arith)
 
-bit_minus : (n m j : ℕ) → m < 4294967296 → j < 24 → (bit_at (bit_and n (4294967295 - m)) j == 1) ≡ ((bit_at n j == 1) && not (bit_at m j == 1))
-bit_minus n m j small hj = rw (bit_at_and n (4294967295 - m) j, bit_at_not w32 m j small (omega arith)) (
+bit_minus : (n m j : ℕ) → (bit_at (bit_and n (bit_xor n m)) j == 1) ≡ ((bit_at n j == 1) && not (bit_at m j == 1))
+bit_minus n m j = rw (bit_at_and n (bit_xor n m) j, bit_at_xor n m j) (
     elim (bit_one n j) [
       | inl z ↦ elim (bit_one m j) [ inl y ↦ rw (z, y) | inr p ↦ rw (z, p) ]
       | inr o ↦ elim (bit_one m j) [ inl z ↦ rw (o, z) | inr p ↦ rw (o, p) ]
     ])
 
-pub has-minus : (n m : ℕ) → m < 4294967296 → (t : Signal) → has (minus n m) t ≡ (has n t && not (has m t))
+pub has-minus : (n m : ℕ) (t : Signal) → has (minus n m) t ≡ (has n t && not (has m t))
 unfolding minus
-has-minus n m small t = bit_minus n m (number_of t) small (number_small t)
+has-minus n m t = bit_minus n m (number_of t)
+
+-- to keep the bits that the other has not is to keep those in which the two differ
+pub and_not : (n m : ℕ) → n < 4294967296 → m < 4294967296 → bit_and n (4294967295 - m) ≡ bit_and n (bit_xor n m)
+and_not n m hn hm =
+    let left : bit_and n (4294967295 - m) < 4294967296 = omega (arith, and_le_l n (4294967295 - m)) in
+    let right : bit_and n (bit_xor n m) < 4294967296 = omega (arith, and_le_l n (bit_xor n m)) in
+    same_from_bits_below 32 (bit_and n (4294967295 - m)) (bit_and n (bit_xor n m)) left right (λ k below.
+    rw (bit_at_and n (4294967295 - m) k, bit_at_and n (bit_xor n m) k, bit_at_xor n m k, bit_at_not w32 m k hm below) (
+    elim (bit_one n k) [
+      | inl z ↦ elim (bit_one m k) [ inl y ↦ rw (z, y) | inr p ↦ rw (z, p) ]
+      | inr o ↦ elim (bit_one m k) [ inl z ↦ rw (o, z) | inr p ↦ rw (o, p) ]
+    ]))
 
 pub has-none : (t : Signal) → has 0 t ≡ false
 has-none t = rw (bit_at-zero (number_of t)) refl

@@ -1,5 +1,5 @@
 -- a set of signals as the number whose bits they are
-use Rattle.std.specs.Prelude.{◌≡◌, ◌≤◌, ℕ, Bool, ◌==◌, ◌^◌, ◌-◌, bit_and, bit_or, IsTrue, IsSome}
+use Rattle.std.specs.Prelude.{◌≡◌, ◌≤◌, ℕ, Bool, ◌==◌, ◌^◌, ◌-◌, bit_and, bit_or, bit_xor, IsTrue, IsSome}
 use Rattle.std.specs.Int.{bit_at}
 use Rattle.unix_names.specs.declared.signals.Signal.{Signal}
 use Rattle.unix_names.specs.Signals.{number_of, signal_of}
@@ -20,9 +20,9 @@ added set s = bit_or set (2 ^ number_of s)
 unfoldable pub removed : ℕ → Signal → ℕ
 removed set s = bit_and set (2 ^ 32 - 1 - 2 ^ number_of s)
 
--- the signals of a set that another has not
+-- the signals of a set that another has not: those in which the two differ, and that the first has
 unfoldable pub minus : ℕ → ℕ → ℕ
-minus set other = bit_and set (2 ^ 32 - 1 - other)
+minus set other = bit_and set (bit_xor set other)
 
 -- a signal of the set that has no greater number than any other
 pub record IsLeast (set : ℕ) (s : Signal) : Type 0 where

@@ -1,6 +1,7 @@
 //! The words of the system: names of processes and groups, nodes, signals and their sets, errors, and what becomes of a process.
 #![tactic(auto)]
 
+pub mod laws;
 mod names;
 mod seq;
 mod sets;

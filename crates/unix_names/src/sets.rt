@@ -1,8 +1,8 @@
 // Sets of signals.
-ghost use Rattle.std.specs.Prelude.{◌≡◌, ◌==◌, ◌&&◌, ◌||◌, not, false, IsTrue, IsNone, IfSome, ◌↔◌, find};
+ghost use Rattle.std.specs.Prelude.{◌≡◌, false, IsTrue, IsNone, IfSome, ◌↔◌, find};
 ghost use Rattle.unix_names.specs.declared.signals.Signal.{Signal};
 ghost use Rattle.unix_names.specs.Sets.{has, added, removed, minus, IsLeast};
-ghost use Rattle.unix_names.specs.Signals.{all_signals, number_of};
+ghost use Rattle.unix_names.specs.Signals.{all_signals};
 
 use crate::signals::{ALL_SIGNALS, Signal, number_of};
 use std::marker::Model;
@@ -28,8 +28,7 @@ impl Model for SigSet {
 impl SigSet {
     /// The set of no signal.
     pub fn empty() -> SigSet
-        ensures value { result ≡ 0 }
-        ensures members { (t : Signal) → has result t ≡ false }
+        ensures { result ≡ 0 }
     {
         SigSet(0)
     }
@@ -43,24 +42,21 @@ impl SigSet {
 
     /// The set and one signal more.
     pub fn with(self, s: Signal) -> SigSet
-        ensures value { result ≡ added self s }
-        ensures members { (t : Signal) → has result t ≡ (has self t || (number_of t == number_of s)) }
+        ensures { result ≡ added self s }
     {
         SigSet(self.0 | (1 << number_of(s)))
     }
 
     /// The set without one signal.
     pub fn without(self, s: Signal) -> SigSet
-        ensures value { result ≡ removed self s }
-        ensures members { (t : Signal) → has result t ≡ (has self t && not (number_of t == number_of s)) }
+        ensures { result ≡ removed self s }
     {
         SigSet(self.0 & !(1 << number_of(s)))
     }
 
     /// The signals that another set has not.
     pub fn minus(self, other: SigSet) -> SigSet
-        ensures value { result ≡ minus self other }
-        ensures members { (t : Signal) → has result t ≡ (has self t && not (has other t)) }
+        ensures { result ≡ minus self other }
     {
         SigSet(self.0 & !other.0)
     }
