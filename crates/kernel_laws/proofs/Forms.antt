@@ -48,15 +48,20 @@ pub record IsQuiet (rows : List Row) (f : Row → Row) : Type 0 where
   pub lived : (c : Row) → row_of rows c.pid ≡ Some c → is_living (f c).life ≡ true → is_living c.life ≡ true
   pub parent : (c : Row) → ((f c).parent.0 ≡ 1) ⊎ ((f c).parent ≡ c.parent)
 
-pub data Form (rows : List Row) (r : Row) (now : List Row) : Type 0 where
-  quiet : (keep : Row → Bool) (f : Row → Row) → IsQuiet rows f → now ≡ map f (filter keep rows) → Form rows r now
-  forked : (n : ℕ) → IsUnused rows n → now ≡ rows ++ newborn r n ∷ [] → Form rows r now
-  regrouped : (p g : Pid) → Regroups rows r p g → now ≡ map (regrouped_at p g) rows → Form rows r now
-  leading : list_any (in_group r.pid) rows ≡ false → now ≡ map (leading_at r.pid) rows → Form rows r now
+-- the entry is a setpgid that was done, of this process to this group
+abbrev pub Regroups_to : Row → Entry → Pid → Pid → Type 0
+Regroups_to r (Called caller (Setpgid t (pos q)) Fine) p g = (p ≡ target_pid r t) × (g ≡ wanted_group r t q)
+Regroups_to r _ p g = ⊥
 
-module _ (rows : List Row) (r : Row) where
+pub data Form (rows : List Row) (r : Row) (entry : Entry) (now : List Row) : Type 0 where
+  quiet : (keep : Row → Bool) (f : Row → Row) → IsQuiet rows f → now ≡ map f (filter keep rows) → Form rows r entry now
+  forked : (n : ℕ) → IsUnused rows n → now ≡ rows ++ newborn r n ∷ [] → Form rows r entry now
+  regrouped : (p g : Pid) → Regroups_to r entry p g → Regroups rows r p g → now ≡ map (regrouped_at p g) rows → Form rows r entry now
+  leading : list_any (in_group r.pid) rows ≡ false → now ≡ map (leading_at r.pid) rows → Form rows r entry now
+
+module _ (rows : List Row) (r : Row) (entry : Entry) where
   -- a map of every row
-  every : (f : Row → Row) (now : List Row) → IsQuiet rows f → now ≡ map f rows → Form rows r now
+  every : (f : Row → Row) (now : List Row) → IsQuiet rows f → now ≡ map f rows → Form rows r entry now
   every f now q e = quiet all_stay f q (e ∙ ap (map f) (sym (filter-all rows)))
 
   -- a change of signals, of what was reported, or of exec
@@ -69,7 +74,7 @@ module _ (rows : List Row) (r : Row) where
     parent = λ c. inr (parent c);
   }
 
-  same : Form rows r rows
+  same : Form rows r entry rows
   same = every (λ c. c) rows (mild (λ c. c) (λ c. refl) (λ c. refl) (λ c. refl) (λ c. refl) (λ c. refl)) (sym (map-id rows))
 
   lived_end : (b : Bool) (w : WaitStatus) (l : Life) → is_living (cond b (Ended w) l) ≡ true → is_living l ≡ true
@@ -80,7 +85,7 @@ module _ (rows : List Row) (r : Row) where
   parent_end true p = inl refl
   parent_end false p = inr refl
 
-  ended_form : (w : WaitStatus) → Form rows r (after_end rows r w)
+  ended_form : (w : WaitStatus) → Form rows r entry (after_end rows r w)
   ended_form w = quiet (is_left rows r w) (after_end_of rows r w) (record {
     pid = λ c. refl;
     group = λ c. refl;
@@ -89,61 +94,62 @@ module _ (rows : List Row) (r : Row) where
     parent = λ c. parent_end (is_parent r.pid c) c.parent;
   }) (ap (map (receives (sent_by_end rows r w))) (left_is rows r w) ∙ map-map (receives (sent_by_end rows r w)) (left r w) (filter (is_left rows r w) rows))
 
-  forked_form : (reply : Reply) → allows rows r Fork reply ≡ true → Form rows r (after_fork rows r reply)
+  forked_form : (reply : Reply) → allows rows r Fork reply ≡ true → Form rows r entry (after_fork rows r reply)
   forked_form (Number n) e = forked n (fresh_number rows n ((unrefused_number (fork_refusal rows r) n (is_fresh rows n) e).1)) refl
   forked_form _ e = same
 
-  waited_form : (reply : Reply) → Form rows r (after_wait rows reply)
+  waited_form : (reply : Reply) → Form rows r entry (after_wait rows reply)
   waited_form (Child p w) = quiet (λ c. not (is_ended_at p c)) (reported_at p) (mild (reported_at p) (λ c. refl) (λ c. refl) (λ c. refl) (λ c. refl) (λ c. refl)) refl
   waited_form _ = same
 
-  killed_form : (target : Target) (s : ℕ) (reply : Reply) → Form rows r (after_kill rows r target s reply)
+  killed_form : (target : Target) (s : ℕ) (reply : Reply) → Form rows r entry (after_kill rows r target s reply)
   killed_form target s Fine =
       let f = receives (sent_by_kill r target s (signal_of s)) in
       every f (map f rows) (mild f (λ c. refl) (λ c. refl) (λ c. refl) (λ c. refl) (λ c. refl)) refl
   killed_form target s _ = same
 
-  regrouped_form : (t : ℕ) (q : ℤ) (reply : Reply) → row_of rows r.pid ≡ Some r → allows rows r (Setpgid t q) reply ≡ true → Form rows r (after_setpgid rows r t q reply)
-  regrouped_form t (negsuc q) reply there e = same
-  regrouped_form t (pos q) Fine there e =
+  regrouped_form : (p : Pid) (t : ℕ) (q : ℤ) (reply : Reply) → entry ≡ Called p (Setpgid t q) reply → row_of rows r.pid ≡ Some r → allows rows r (Setpgid t q) reply ≡ true → Form rows r entry (after_setpgid rows r t q reply)
+  regrouped_form p t (negsuc q) reply is there e = same
+  regrouped_form p t (pos q) Fine is there e =
       regrouped (target_pid r t) (wanted_group r t q)
+        (subst (λ x. Regroups_to r x (target_pid r t) (wanted_group r t q)) (sym is) (refl, refl))
         (regroups rows r t (wanted_group r t q) there (unrefused_fine (regroup_refusal rows r (row_named rows r t) (wanted_group r t q)) true e)) refl
-  regrouped_form t (pos q) _ there e = same
+  regrouped_form p t (pos q) _ is there e = same
 
-  leading_form : (reply : Reply) → allows rows r Setsid reply ≡ true → Form rows r (after_setsid rows r reply)
+  leading_form : (reply : Reply) → allows rows r Setsid reply ≡ true → Form rows r entry (after_setsid rows r reply)
   leading_form (Number n) e =
       let a = unrefused_number (setsid_refusal rows r) n (n == r.pid.0) e in
       leading ((no_refusal (list_any (in_group r.pid) rows) EPERM None a.0).0) refl
   leading_form _ e = same
 
-  acting_form : (o : Option Signal) (act : Act) (reply : Reply) → Form rows r (after_action rows r o act reply)
+  acting_form : (o : Option Signal) (act : Act) (reply : Reply) → Form rows r entry (after_action rows r o act reply)
   acting_form None act reply = same
   acting_form (Some s) act Fine = every (acting_at r.pid s act) (map (acting_at r.pid s act) rows) (mild (acting_at r.pid s act) (λ c. refl) (λ c. refl) (λ c. refl) (λ c. refl) (λ c. refl)) refl
   acting_form (Some s) act _ = same
 
-  call_form : (call : Call) (reply : Reply) → row_of rows r.pid ≡ Some r → allows rows r call reply ≡ true → Form rows r (after_call rows r call reply)
-  call_form Fork reply there e = forked_form reply e
-  call_form Exec reply there e = every (execed_at r.pid) (map (execed_at r.pid) rows) (mild (execed_at r.pid) (λ c. refl) (λ c. refl) (λ c. refl) (λ c. refl) (λ c. refl)) refl
-  call_form (Exit n) reply there e = ended_form (status.Exited (n % 256))
-  call_form (Waitpid sel stopped continued) reply there e = waited_form reply
-  call_form (Kill target s) reply there e = killed_form (target_of target) s reply
-  call_form (Setpgid t q) reply there e = regrouped_form t q reply there e
-  call_form Setsid reply there e = leading_form reply e
-  call_form (Action s act) reply there e = acting_form (signal_of s) act reply
-  call_form (Mask set) reply there e = every (masked_at r.pid set) (map (masked_at r.pid set) rows) (mild (masked_at r.pid set) (λ c. refl) (λ c. refl) (λ c. refl) (λ c. refl) (λ c. refl)) refl
-  call_form Getpid reply there e = same
-  call_form Getppid reply there e = same
-  call_form (Getpgid t) reply there e = same
-  call_form (Getsid t) reply there e = same
-  call_form Pending reply there e = same
-  call_form Migrate reply there e = same
+  call_form : (p : Pid) (call : Call) (reply : Reply) → entry ≡ Called p call reply → row_of rows r.pid ≡ Some r → allows rows r call reply ≡ true → Form rows r entry (after_call rows r call reply)
+  call_form p Fork reply is there e = forked_form reply e
+  call_form p Exec reply is there e = every (execed_at r.pid) (map (execed_at r.pid) rows) (mild (execed_at r.pid) (λ c. refl) (λ c. refl) (λ c. refl) (λ c. refl) (λ c. refl)) refl
+  call_form p (Exit n) reply is there e = ended_form (status.Exited (n % 256))
+  call_form p (Waitpid sel stopped continued) reply is there e = waited_form reply
+  call_form p (Kill target s) reply is there e = killed_form (target_of target) s reply
+  call_form p (Setpgid t q) reply is there e = regrouped_form p t q reply is there e
+  call_form p Setsid reply is there e = leading_form reply e
+  call_form p (Action s act) reply is there e = acting_form (signal_of s) act reply
+  call_form p (Mask set) reply is there e = every (masked_at r.pid set) (map (masked_at r.pid set) rows) (mild (masked_at r.pid set) (λ c. refl) (λ c. refl) (λ c. refl) (λ c. refl) (λ c. refl)) refl
+  call_form p Getpid reply is there e = same
+  call_form p Getppid reply is there e = same
+  call_form p (Getpgid t) reply is there e = same
+  call_form p (Getsid t) reply is there e = same
+  call_form p Pending reply is there e = same
+  call_form p Migrate reply is there e = same
 
   -- the one row whose life an event changes is a living one
   lived_at : (l : Life) (c : Row) → row_of rows r.pid ≡ Some r → is_living r.life ≡ true → row_of rows c.pid ≡ Some c → (b : Bool) → is_pid r.pid c ≡ b → is_living (cond b l c.life) ≡ true → is_living c.life ≡ true
   lived_at l c there lives here true is a = ap (λ x. is_living x.life) (one_row rows r.pid c r there here is) ∙ lives
   lived_at l c there lives here false is a = a
 
-  event_form : (event : Event) → row_of rows r.pid ≡ Some r → is_living r.life ≡ true → Form rows r (after_event rows r event)
+  event_form : (event : Event) → row_of rows r.pid ≡ Some r → is_living r.life ≡ true → Form rows r entry (after_event rows r event)
   event_form (Caught s) there lives = every (delivered_at r.pid s) (map (delivered_at r.pid s) rows) (mild (delivered_at r.pid s) (λ c. refl) (λ c. refl) (λ c. refl) (λ c. refl) (λ c. refl)) refl
   event_form (Discarded s) there lives = every (delivered_at r.pid s) (map (delivered_at r.pid s) rows) (mild (delivered_at r.pid s) (λ c. refl) (λ c. refl) (λ c. refl) (λ c. refl) (λ c. refl)) refl
   event_form (StoppedBy s) there lives =
@@ -167,6 +173,6 @@ module _ (rows : List Row) (r : Row) where
       }) (map-map (receives (sent_to_parent r)) (continued_at r.pid) rows)
   event_form Moved there lives = same
 
-  pub step_form : (entry : Entry) → row_of rows r.pid ≡ Some r → is_living r.life ≡ true → row_verdict rows r entry ≡ Legal → Form rows r (row_after rows r entry)
-  step_form (Called p call reply) there lives e = call_form call reply there ((call_allowed rows r call reply e).1)
-  step_form (Happened p event) there lives e = event_form event there lives
+pub step_form : (rows : List Row) (r : Row) (entry : Entry) → row_of rows r.pid ≡ Some r → is_living r.life ≡ true → row_verdict rows r entry ≡ Legal → Form rows r entry (row_after rows r entry)
+step_form rows r (Called p call reply) there lives e = call_form rows r (Called p call reply) p call reply refl there ((call_allowed rows r call reply e).1)
+step_form rows r (Happened p event) there lives e = event_form rows r (Happened p event) event there lives

@@ -94,17 +94,17 @@ leading_leads rows r there free leads c' l' hc hl =
         cc
     go false false c l eb ea hc hl = leads c l hc hl
 
-form_leads : (rows : List Row) (r : Row) (now : List Row) → AreDistinct rows → row_of rows r.pid ≡ Some r → HaveLeaders rows → Form rows r now → HaveLeaders now
-form_leads rows r now distinct there leads (quiet keep f q e) = subst HaveLeaders (sym e) (quiet_leads rows keep f distinct q leads)
-form_leads rows r now distinct there leads (forked n unused e) = subst HaveLeaders (sym e) (forked_leads rows r n there unused leads)
-form_leads rows r now distinct there leads (regrouped p g t e) = subst HaveLeaders (sym e) (regrouped_leads rows r p g t leads)
-form_leads rows r now distinct there leads (leading free e) = subst HaveLeaders (sym e) (leading_leads rows r there free leads)
+form_leads : (rows : List Row) (r : Row) (entry : Entry) (now : List Row) → AreDistinct rows → row_of rows r.pid ≡ Some r → HaveLeaders rows → Form rows r entry now → HaveLeaders now
+form_leads rows r entry now distinct there leads (quiet keep f q e) = subst HaveLeaders (sym e) (quiet_leads rows keep f distinct q leads)
+form_leads rows r entry now distinct there leads (forked n unused e) = subst HaveLeaders (sym e) (forked_leads rows r n there unused leads)
+form_leads rows r entry now distinct there leads (regrouped p g is t e) = subst HaveLeaders (sym e) (regrouped_leads rows r p g t leads)
+form_leads rows r entry now distinct there leads (leading free e) = subst HaveLeaders (sym e) (leading_leads rows r there free leads)
 
 pub step_leads : (rows : List Row) (entry : Entry) → IsSound rows → HaveLeaders rows → verdict rows entry ≡ Legal → HaveLeaders (after rows entry)
 step_leads rows entry sound leads e =
     let a = actor rows entry e in
     let here = row_here rows (process_of entry) a.row a.there in
-    subst HaveLeaders (sym (after_is rows entry a.row a.there)) (form_leads rows a.row _ sound.distinct here leads (step_form rows a.row entry here a.lives a.legal))
+    subst HaveLeaders (sym (after_is rows entry a.row a.there)) (form_leads rows a.row entry _ sound.distinct here leads (step_form rows a.row entry here a.lives a.legal))
 
 -- at first
 first_leads : (rows : List Row) → IsFirst rows → HaveLeaders rows

@@ -12,3 +12,4 @@ pub mod Others
 pub mod Own
 pub mod Forms
 pub mod Leaders
+pub mod OrphanedGroups
