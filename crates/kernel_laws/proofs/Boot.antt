@@ -1,30 +1,26 @@
 -- the first table of a world, and the tables of its legal histories
-use Rattle.std.proofs.Common.{◌≡◌, ◌≢◌, ◌==◌, ◌≤◌, ◌+◌, ◌⊎◌, inl, inr, ◌++◌, ℕ, zero, suc, Bool, true, false, cond, not, List, [], ◌∷◌, length, refl, sym, ap, ◌∙◌, subst, arith, Option, None, Some, All}
-use Rattle.std.specs.Prelude.{filter, slice_get}
+use Rattle.std.proofs.Common.{◌≡◌, ◌≢◌, ◌==◌, inl, inr, ◌++◌, ℕ, zero, suc, Bool, true, false, cond, List, [], ◌∷◌, length, refl, sym, ap, ◌∙◌, subst, arith, Option, None, Some, All}
+use Rattle.std.specs.Prelude.{slice_get}
 use Rattle.std.specs.Option.{option_or}
 use Rattle.std.proofs.lemmas.Bool.{eqb-true, ne_eqb}
 use Rattle.std.proofs.lemmas.List.Elements.{All-head, All-tail}
 use Rattle.unix_names.specs.declared.Pid.{Pid}
 use Rattle.unix_names.specs.declared.Life.TheVariants.{Runs}
-use Rattle.unix_names.specs.States.{is_living}
 use Rattle.unix_calls.specs.declared.Entry.{Entry}
 use Rattle.unix_calls.specs.declared.Start.{Start}
-use Rattle.unix_calls.specs.declared.World.{World}
 use Rattle.signal_state.specs.Signals.{IsKept}
 use Rattle.signal_state.specs.Sig.{fresh}
 use Rattle.kernel_model.specs.declared.rows.Row.{Row}
-use Rattle.kernel_model.specs.declared.verdict.Verdict.TheVariants.{Legal}
-use Rattle.kernel_model.specs.Rows.{pid, is_pid, is_parent, is_stopped, row_of, child_count}
-use Rattle.kernel_model.specs.Step.{verdict, after}
-use Rattle.kernel_model.specs.Legal.{joined_row, first_group, first_session, row_with, first_row, booted, boot, after_entries, after_all, IsLegalFrom, IsLegal}
-use Rattle.kernel_model.specs.Sound.{AreDistinct, IsAlive, IsSoundRow, IsSound}
-use Rattle.list_laws.specs.Keyed.{at, Distinct, one_if}
+use Rattle.kernel_model.specs.Rows.{is_parent, is_stopped, row_of, child_count}
+use Rattle.kernel_model.specs.Step.{after}
+use Rattle.kernel_model.specs.Legal.{joined_row, row_with, first_row, booted, boot, after_entries, IsLegalFrom}
+use Rattle.kernel_model.specs.Sound.{IsSoundRow, IsSound}
+use Rattle.list_laws.specs.Keyed.{at, Distinct}
 use Rattle.list_laws.proofs.Finding.{at-append, comes-append, distinct-append, at-append_none, absent_differs, absent_rest, same_flip, same_number}
 use Rattle.list_laws.proofs.Elements.{filter-same}
 use Rattle.list_laws.proofs.Filters.{filter-none, some_same}
-use Rattle.list_laws.proofs.Counts.{count-append}
-use Rattle.kernel_laws.specs.Tables.{IsOwnPid, HaveOwnPids, BootIsSound, LegalTablesAreSound, StepKeepsSound}
-use Rattle.kernel_laws.proofs.Rows.{number, distinct_from, distinct_to, pid_same, row_pid, row_here}
+use Rattle.kernel_laws.specs.Tables.{IsOwnPid, BootIsSound, LegalTablesAreSound}
+use Rattle.kernel_laws.proofs.Rows.{number, distinct_to, pid_same, row_here}
 use Rattle.kernel_laws.proofs.SignalFacts.{none_in_empty}
 use Rattle.kernel_laws.proofs.Steps.{step_keeps}
 

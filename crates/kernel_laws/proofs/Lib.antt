@@ -13,3 +13,4 @@ pub mod Own
 pub mod Forms
 pub mod Leaders
 pub mod OrphanedGroups
+pub mod Coming

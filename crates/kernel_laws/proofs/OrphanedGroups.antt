@@ -1,35 +1,32 @@
 -- an orphaned group stays orphaned
-use Rattle.std.proofs.Common.{◌≡◌, ◌≢◌, ◌==◌, ◌&&◌, ◌||◌, ◌≤◌, ◌⊎◌, inl, inr, ◌++◌, ℕ, ℤ, pos, negsuc, Bool, true, false, cond, not, List, [], ◌∷◌, refl, sym, ap, ◌∙◌, subst, arith, Option, None, Some}
+use Rattle.std.proofs.Common.{◌≡◌, ◌==◌, ◌&&◌, ◌||◌, ◌⊎◌, inl, inr, ◌++◌, ℕ, pos, negsuc, Bool, true, false, cond, not, List, [], ◌∷◌, refl, sym, ap, ◌∙◌, subst, arith, Option, None, Some}
 use Rattle.std.specs.Prelude.{map, filter}
 use Rattle.std.specs.List.{list_any}
 use Rattle.std.specs.Option.{option_map, option_or}
-use Rattle.std.proofs.lemmas.Bool.{eqb-true, eq-eqb, ne_eqb, and_parts, or_parts}
+use Rattle.std.proofs.lemmas.Bool.{eqb-true, eq-eqb, ne_eqb, and_parts}
 use Rattle.std.proofs.lemmas.List.Folds.{list_any-append}
 use Rattle.unix_names.specs.declared.Pid.{Pid}
 use Rattle.unix_names.specs.States.{is_living}
-use Rattle.unix_calls.specs.declared.Call.{Call}
 use Rattle.unix_calls.specs.declared.Call.TheVariants.{Setpgid}
 use Rattle.unix_calls.specs.declared.Reply.TheVariants.{Fine}
 use Rattle.unix_calls.specs.declared.Entry.{Entry}
 use Rattle.unix_calls.specs.declared.Entry.TheVariants.{Called, Happened}
 use Rattle.kernel_model.specs.declared.rows.Row.{Row}
-use Rattle.kernel_model.specs.declared.verdict.Verdict.TheVariants.{Legal}
-use Rattle.kernel_model.specs.Rows.{pid, is_pid, in_group, in_session, row_of}
-use Rattle.kernel_model.specs.Orphans.{is_outside_parent, is_link, is_link_of, is_orphaned}
-use Rattle.kernel_model.specs.Refusals.{target_pid, wanted_group}
-use Rattle.kernel_model.specs.Step.{process_of, verdict, newborn, regrouped_at, leading_at, after}
+use Rattle.kernel_model.specs.Rows.{is_pid, in_group, in_session, row_of}
+use Rattle.kernel_model.specs.Orphans.{is_outside_parent, is_link_of}
+use Rattle.kernel_model.specs.Step.{process_of, newborn, regrouped_at, leading_at}
 use Rattle.kernel_model.specs.Sound.{AreDistinct, IsAlive, IsSound}
 use Rattle.list_laws.specs.Keyed.{at, option_filter}
 use Rattle.list_laws.proofs.Filters.{filter-all, any-map, any-filter, mapped_some}
 use Rattle.list_laws.proofs.Finding.{at-append, same_number}
-use Rattle.list_laws.proofs.Elements.{any_some, any_no, any_found, any_none_found}
+use Rattle.list_laws.proofs.Elements.{any_no, any_found, any_none_found}
 use Rattle.kernel_laws.specs.Effects.{IsUnused}
 use Rattle.kernel_laws.specs.Groups.{HaveLeaders, IsRegroupingIn, OrphanedStays}
 use Rattle.kernel_laws.proofs.Rows.{number, distinct_from, row_pid, row_here, one_row, row_map, row_moved}
 use Rattle.kernel_laws.proofs.Plain.{all_stay}
 use Rattle.kernel_laws.proofs.Legal.{not_true, not_false, actor, after_is}
 use Rattle.kernel_laws.proofs.Steps.{Regroups}
-use Rattle.kernel_laws.proofs.Forms.{IsQuiet, Regroups_to, Form, quiet, forked, regrouped, leading, step_form}
+use Rattle.kernel_laws.proofs.Forms.{IsQuiet, RegroupsTo, Form, quiet, forked, regrouped, leading, step_form}
 
 -- ---- links
 -- a link: a living member whose parent has a row, is in another group, and is in its session
@@ -64,7 +61,7 @@ no_new_link rows now keep f g distinct was none =
     any-map (is_link_of now g) f (filter keep rows)
     ∙ any-filter (λ c. is_link_of now g (f c)) keep rows
     ∙ any_none_found number (λ c. keep c && is_link_of now g (f c)) rows (distinct_from rows distinct)
-        (λ c here. still (keep c) (is_link_of now g (f c)) (was c here) (any_no number (is_link_of rows g) c.pid.0 rows c none here))
+    (λ c here. still (keep c) (is_link_of now g (f c)) (was c here) (any_no number (is_link_of rows g) c.pid.0 rows c none here))
   where
     still : {x : Bool} → (k b : Bool) → (b ≡ true → x ≡ true) → x ≡ false → (k && b) ≡ false
     still true true h e = let t = h refl in cc
@@ -190,7 +187,7 @@ every_link rows f g distinct was none =
     ap (λ t. list_any (is_link_of (map f rows) g) (map f t)) (sym (filter-all rows)) ∙ no_new_link rows (map f rows) all_stay f g distinct was none
 
 -- the entry, told by the form of its step
-regrouping : (rows : List Row) (r : Row) (entry : Entry) (p h g : Pid) → row_of rows (process_of entry) ≡ Some r → Regroups_to r entry p h → (t : Regroups rows r p h) → (t.target.group.0 ≡ g.0) ⊎ (h.0 ≡ g.0) → IsRegroupingIn rows g entry
+regrouping : (rows : List Row) (r : Row) (entry : Entry) (p h g : Pid) → row_of rows (process_of entry) ≡ Some r → RegroupsTo r entry p h → (t : Regroups rows r p h) → (t.target.group.0 ≡ g.0) ⊎ (h.0 ≡ g.0) → IsRegroupingIn rows g entry
 regrouping rows r (Called caller (Setpgid n (pos q)) Fine) p h g there is t which =
     (r, t.target, there, ap (row_of rows) (sym is.0 ∙ sym t.is) ∙ t.there, elim which [ inl from ↦ inl from | inr into ↦ inr (ap (λ x. x.0) (sym is.1) ∙ into) ])
 regrouping rows r (Called caller (Setpgid n (pos q)) _) p h g there is t which = absurd is
@@ -201,14 +198,14 @@ regrouping rows r (Happened q event) p h g there is t which = absurd is
 -- an orphaned group is so after the step, or the step set the group of a member, or made one
 form_orphaned : (rows : List Row) (r : Row) (entry : Entry) (now : List Row) (g : Pid) → IsSound rows → HaveLeaders rows → row_of rows r.pid ≡ Some r → row_of rows (process_of entry) ≡ Some r → list_any (in_group g) rows ≡ true →
     list_any (is_link_of rows g) rows ≡ false → Form rows r entry now → (list_any (is_link_of now g) now ≡ false) ⊎ IsRegroupingIn rows g entry
-form_orphaned rows r entry now g sound leads there actor_ member none (quiet keep f q e) =
+form_orphaned rows r entry now g sound leads there actor_ member none (quiet keep f q stays e) =
     inl (subst (λ t. list_any (is_link_of t g) t ≡ false) (sym e) (no_new_link rows (map f (filter keep rows)) keep f g sound.distinct (quiet_link rows keep f g sound q) none))
-form_orphaned rows r entry now g sound leads there actor_ member none (forked n unused e) =
+form_orphaned rows r entry now g sound leads there actor_ member none (forked n is unused e) =
     inl (subst (λ t. list_any (is_link_of t g) t ≡ false) (sym e) (forked_orphaned rows r n g sound there unused none))
 form_orphaned rows r entry now g sound leads there actor_ member none (leading free e) =
     let m = any_found number (in_group g) rows (distinct_from rows sound.distinct) member in
     inl (subst (λ t. list_any (is_link_of t g) t ≡ false) (sym e) (every_link rows (leading_at r.pid) g sound.distinct
-      (leading_link rows r g leads there free (other (r.pid.0 == g.0) refl m.0 m.1 m.2)) none))
+    (leading_link rows r g leads there free (other (r.pid.0 == g.0) refl m.0 m.1 m.2)) none))
   where
     other : (b : Bool) → (r.pid.0 == g.0) ≡ b → (x : Row) → row_of rows x.pid ≡ Some x → in_group g x ≡ true → b ≡ false
     other false s x h i = refl

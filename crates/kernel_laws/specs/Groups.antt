@@ -1,5 +1,5 @@
 -- sessions, and groups that are orphaned (POSIX.1-2017, XBD chapter 3, Orphaned Process Group)
-use Rattle.std.specs.Prelude.{ℕ, ℤ, pos, negsuc, Bool, true, false, ◌≡◌, ◌⊎◌, List, ◌++◌, Option, Some}
+use Rattle.std.specs.Prelude.{pos, true, false, ◌≡◌, ◌⊎◌, List, ◌++◌, Some}
 use Rattle.std.specs.List.{list_any}
 use Rattle.unix_names.specs.declared.Pid.{Pid}
 use Rattle.unix_calls.specs.declared.Call.TheVariants.{Setpgid}
@@ -13,7 +13,7 @@ use Rattle.kernel_model.specs.Rows.{in_group, row_of}
 use Rattle.kernel_model.specs.Orphans.{is_orphaned}
 use Rattle.kernel_model.specs.Refusals.{target_pid, wanted_group}
 use Rattle.kernel_model.specs.Step.{verdict, after}
-use Rattle.kernel_model.specs.Legal.{boot, after_all, IsLegal}
+use Rattle.kernel_model.specs.Legal.{after_all, IsLegal}
 use Rattle.kernel_model.specs.Sound.{IsSound}
 use Rattle.kernel_laws.specs.Tables.{HaveOwnPids}
 

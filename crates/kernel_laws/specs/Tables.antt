@@ -1,5 +1,5 @@
 -- tables that can come about stay such
-use Rattle.std.specs.Prelude.{ℕ, ◌≡◌, ◌≢◌, List, ◌++◌, All}
+use Rattle.std.specs.Prelude.{◌≡◌, ◌≢◌, List, ◌++◌, All}
 use Rattle.unix_calls.specs.declared.Entry.{Entry}
 use Rattle.unix_calls.specs.declared.Start.{Start}
 use Rattle.unix_calls.specs.declared.World.{World}
