@@ -3,7 +3,7 @@ use Rattle.std.specs.Prelude.{ℕ, ◌==◌, not, List, [], ◌∷◌, ◌++◌,
 use Rattle.unix_names.specs.declared.Pid.{Pid}
 use Rattle.group_record.specs.declared.log.LogEntry.{LogEntry}
 use Rattle.group_record.specs.declared.group.Group.{Group}
-use Rattle.group_record.specs.Members.{least_from, lowered}
+use Rattle.group_record.specs.Members.{least_from, lowered, begun_at}
 
 -- a member more, the last, whose part of the log begins at its end
 abbrev pub joined : Group → Pid → ℕ → Group
@@ -24,3 +24,7 @@ cut count g = record g { members = map (lowered count) g.members; log = drop cou
 -- what each member has passed is gone from the log
 abbrev pub trimmed : Group → Group
 trimmed g = cut (least_from g.members) g
+
+-- a member's part of the log is emptied: it begins at the log's end
+abbrev pub settled : Group → Pid → Group
+settled g p = record g { members = map (begun_at (length g.log) p) g.members }

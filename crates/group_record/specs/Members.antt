@@ -1,5 +1,6 @@
 -- the members of a group, by process id
-use Rattle.std.specs.Prelude.{ℕ, Bool, ◌==◌, ◌-◌, min, List, [], ◌∷◌, fold, Option, None, Some, is_some}
+use Rattle.std.specs.Prelude.{ℕ, Bool, ◌==◌, ◌-◌, min, List, [], ◌∷◌, fold, Option, None, Some, is_some, if◌then◌else◌}
+use Rattle.std.specs.Option.{option_map}
 use Rattle.list_laws.specs.Keyed.{at}
 use Rattle.unix_names.specs.declared.Pid.{Pid}
 use Rattle.group_record.specs.declared.member.Member.{Member}
@@ -13,6 +14,10 @@ member_of members p = at member_number p.0 members
 
 abbrev pub has_member : List Member → Pid → Bool
 has_member members p = is_some (member_of members p)
+
+-- the user id under which a process is a member
+abbrev pub uid_of : List Member → Pid → Option ℕ
+uid_of members p = option_map (λ m. m.uid) (member_of members p)
 
 abbrev pub from_in : Option Member → ℕ
 from_in None = 0
@@ -29,3 +34,7 @@ least_from (m ∷ ms) = fold (λ least x. min least x.from) m.from ms
 
 abbrev pub lowered : ℕ → Member → Member
 lowered by m = record m { from = m.from - by }
+
+-- a member whose part of the log begins elsewhere, if it is that process
+abbrev pub begun_at : ℕ → Pid → Member → Member
+begun_at from p m = if m.pid.0 == p.0 then record m { from = from } else m

@@ -1,12 +1,12 @@
 // The record of a process group.
-ghost use Rattle.std.specs.Prelude.{◌≡◌, ◌≢◌, ◌≤◌, ◌++◌, [], ℕ, false, true, ◌↔◌, length, All, IsTrue, IfOk, OnOk, OnErr};
+ghost use Rattle.std.specs.Prelude.{◌≡◌, ◌≢◌, ◌≤◌, ◌++◌, [], ℕ, false, true, ◌↔◌, length, drop, All, IsTrue, IfOk, OnOk, OnErr};
 ghost use Rattle.unix_names.specs.declared.Pid.{Pid};
 ghost use Rattle.group_record.specs.Members.{member_of, has_member, from_of};
 ghost use Rattle.group_record.specs.Log.{log_part, told};
-ghost use Rattle.group_record.specs.Groups.{joined, left, with_entry, trimmed};
+ghost use Rattle.group_record.specs.Groups.{joined, left, with_entry, cut, trimmed, settled};
 
-use crate::log::{Allow, LogEntry, drop_front};
-use crate::member::{Member, least_from, lower_each, member_of};
+use crate::log::{Allow, LogEntry, drop_front, entries_from};
+use crate::member::{Member, begin_at, least_from, lower_each, member_of};
 use unix_names::{NoMemory, Pid, Seq, Signal};
 
 /// The record of a process group.
@@ -37,6 +37,17 @@ impl Group {
         ensures { result ≡ has_member self.now.members p }
     {
         self.member_of(p).is_some()
+    }
+
+    /// The entries of the log from where a process's part begins. For who is no member that is the whole log.
+    pub fn part_of(&self, p: Pid) -> &[LogEntry]
+        ensures { result.now ≡ drop (from_of self.now.members p) self.now.log }
+    {
+        let from = match self.member_of(p) {
+            None => 0,
+            Some(m) => m.from,
+        };
+        entries_from(self.log.as_slice(), from)
     }
 
     /// Whether there are no members. It takes no memory.
@@ -92,8 +103,32 @@ impl Group {
         ensures within { All (λ m. m.from ≤ length self.new.log) self.new.members }
     {
         let least = least_from(self.members.as_slice());
-        lower_each(self.members.as_mut_slice(), least);
-        drop_front(&mut self.log, least as usize);
+        self.cut(least);
+    }
+
+    fn cut(&mut self, count: u64)
+        requires { count ≤ length self.old.log }
+        ensures { self.new ≡ cut count self.old }
+    {
+        lower_each(self.members.as_mut_slice(), count);
+        drop_front(&mut self.log, count as usize);
+    }
+
+    /// Empties a process's part of the log: it begins at the log's end. It takes no memory.
+    pub fn settle(&mut self, p: Pid)
+        ensures settled { self.new ≡ settled self.old p }
+        ensures empty_part { has_member self.old.members p ≡ true → (uid : ℕ) → log_part p uid self.new ≡ [] }
+        ensures others { (q : Pid) (u : ℕ) → q.0 ≢ p.0 → log_part q u self.new ≡ log_part q u self.old }
+        ensures within { All (λ m. m.from ≤ length self.old.log) self.old.members → All (λ m. m.from ≤ length self.new.log) self.new.members }
+    {
+        self.begin_at_end(p);
+    }
+
+    fn begin_at_end(&mut self, p: Pid)
+        ensures { self.new ≡ settled self.old p }
+    {
+        let end = self.log.len() as u64;
+        begin_at(self.members.as_mut_slice(), end, p);
     }
 
     /// An equal record.
@@ -110,5 +145,36 @@ impl Group {
             links: self.links,
             stopped: self.stopped,
         })
+    }
+}
+
+#[cfg(test)]
+mod tests {
+    use super::*;
+    use std::test::Fail;
+
+    #[test]
+    fn members_and_log(rt: HostRuntime) -> Result<(), Fail> {
+        let mut g = Group {
+            id: Pid(2),
+            session: Pid(2),
+            members: Seq::new(rt.alloc()),
+            log: Seq::new(rt.alloc()),
+            links: 0,
+            stopped: 0,
+        };
+        assert!(rt; g.is_empty());
+        g.join(Pid(2), 7)?;
+        g.append(Signal::Usr1, None, Allow::Uid(7))?;
+        assert!(rt; !g.has_member(Pid(3)));
+        g.join(Pid(3), 0)?;
+        g.append(Signal::Term, Some(Pid(2)), Allow::All)?;
+        let copy = g.copy()?;
+        assert!(rt; g.leave(Pid(2)) && !g.leave(Pid(2)));
+        assert_eq!(rt; g.members.as_slice(), [Member { pid: Pid(3), from: 1, uid: 0 }].as_slice());
+        assert_eq!(rt; copy.members.len(), 2);
+        assert_eq!(rt; copy.part_of(Pid(2)).len(), 2);
+        assert!(rt; !copy.part_of(Pid(3)).iter().any(|e| e.concerns(Pid(3), 0)));
+        Ok(())
     }
 }

@@ -58,3 +58,11 @@ pub(crate) fn drop_front(log: &mut Seq<LogEntry>, count: usize)
     log.as_mut_slice().rotate_left(count);
     log.truncate(kept);
 }
+
+/// The entries from a place on; none past the end.
+pub(crate) fn entries_from(log: &[LogEntry], from: u64) -> &[LogEntry]
+    ensures { result.now ≡ drop from log.now }
+{
+    let begin = (from as usize).min(log.len());
+    &log[begin..]
+}

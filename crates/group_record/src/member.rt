@@ -1,6 +1,6 @@
 // The members of a group.
 ghost use Rattle.std.specs.Prelude.{◌≡◌, map};
-ghost use Rattle.group_record.specs.Members.{member_of, least_from, lowered};
+ghost use Rattle.group_record.specs.Members.{member_of, least_from, lowered, begun_at};
 
 use unix_names::Pid;
 
@@ -29,14 +29,43 @@ pub(crate) fn least_from(members: &[Member]) -> u64
     }
 }
 
+fn lowered(m: Member, by: u64) -> Member
+    ensures { result ≡ lowered by m }
+{
+    Member {
+        pid: m.pid,
+        from: m.from.saturating_sub(by),
+        uid: m.uid,
+    }
+}
+
+#[tactic(auto, using(std::proofs::lemmas::List::Edits::map_over_more))]
 pub(crate) fn lower_each(members: &mut [Member], by: u64)
     ensures { members.new ≡ map (lowered by) members.old }
 {
     for m in members.iter_mut() {
-        *m = Member {
+        *m = lowered(*m, by);
+    }
+}
+
+fn begun_at(from: u64, p: Pid, m: Member) -> Member
+    ensures { result ≡ begun_at from p m }
+{
+    if m.pid == p {
+        Member {
             pid: m.pid,
-            from: m.from.saturating_sub(by),
+            from,
             uid: m.uid,
-        };
+        }
+    } else {
+        m
+    }
+}
+
+pub(crate) fn begin_at(members: &mut [Member], from: u64, p: Pid)
+    ensures { members.new ≡ map (begun_at from p) members.old }
+{
+    for m in members.iter_mut() {
+        *m = begun_at(from, p, *m);
     }
 }

@@ -1,3 +1,4 @@
+pub mod Changes
 pub mod Ending
 pub mod Events
 pub mod Legal

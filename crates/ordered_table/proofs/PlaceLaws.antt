@@ -1,10 +1,10 @@
 -- an id's place among entries that rise
 use Rattle.std.proofs.Common.{◌≡◌, ◌==◌, ◌<◌, ◌≤◌, ◌+◌, ℕ, zero, suc, Bool, true, false, nat_lt, List, [], ◌∷◌, ◌++◌, length, get_or, set, take, drop, sym, ap, ◌∙◌, subst, refl, arith, Some, None, if◌then◌else◌, Option}
-use Rattle.std.specs.List.{insert, remove}
+use Rattle.std.specs.List.{insert, remove, last_or}
 use Rattle.std.specs.List.Sorted.{IsNonDecreasingBy}
 use Rattle.unix_names.specs.declared.Pid.{Pid}
 use Rattle.ordered_table.specs.declared.entries.Entry.{Entry}
-use Rattle.ordered_table.specs.Entries.{value_at, with_value, without, AllAbove, IsRising}
+use Rattle.ordered_table.specs.Entries.{value_at, with_value, without, pids_of, AllAbove, AllUpTo, IsRising}
 use Rattle.ordered_table.specs.Places.{place, IsFoundAt, IsVacantAt}
 
 -- an id below all the entries is below each
@@ -93,3 +93,21 @@ pub vacant : {T : Type 0} (es : List (Entry T)) (p : Pid) → Vacant es p
 vacant [] p zero at other = record { within = omega arith; none = refl; inserted = λ v. refl; removed = refl }
 vacant [] p (suc i) at other = absurd (omega arith)
 vacant (e ∷ es) p i at other = vacant-by e es p (nat_lt e.pid.0 p.0) refl (vacant es p) i at other
+
+-- the last id
+pub last-pid : {T : Type 0} (es : List (Entry T)) (i : ℕ) (d : Entry T) (o : Option Pid) → suc i ≡ length es → last_or o (pids_of es) ≡ Some (get_or es i d).pid
+last-pid [] i d o at = absurd (omega arith)
+last-pid (e ∷ []) zero d o at = refl
+last-pid (e ∷ []) (suc i) d o at = absurd (omega arith)
+last-pid (e ∷ f ∷ es) zero d o at = absurd (omega arith)
+last-pid (e ∷ f ∷ es) (suc i) d o at = last-pid (f ∷ es) i d (Some e.pid) (omega arith)
+
+-- none is above the last
+pub AllUpTo-last : {T : Type 0} (es : List (Entry T)) (i : ℕ) (d : Entry T) → suc i ≡ length es → IsRising es → AllUpTo (get_or es i d).pid es
+AllUpTo-last [] i d at r = tt
+AllUpTo-last (e ∷ []) zero d at r = (omega arith, tt)
+AllUpTo-last (e ∷ []) (suc i) d at r = absurd (omega arith)
+AllUpTo-last (e ∷ f ∷ es) zero d at r = absurd (omega arith)
+AllUpTo-last (e ∷ f ∷ es) (suc i) d at r =
+    let above = above-at e.pid (f ∷ es) i d r.0 (omega arith) in
+    (omega arith, AllUpTo-last (f ∷ es) i d (omega arith) r.1)

@@ -4,6 +4,8 @@
 mod entries;
 mod queue;
 mod table;
+#[cfg(test)]
+mod tests;
 
 pub use entries::Entry;
 pub use queue::Queue;

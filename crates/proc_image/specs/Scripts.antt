@@ -1,6 +1,8 @@
 -- How a process runs its script: what it asks next, and how far it is after the answer.
 use Rattle.std.specs.Prelude.{ℕ, suc, Bool, true, false, ℤ, pos, neg_ℤ, List, Option, None, Some, unwrap_or, option_and_then, slice_get, slice_set}
 use Rattle.unix_names.specs.declared.Pid.{Pid}
+use Rattle.unix_names.specs.declared.NodeId.{NodeId}
+use Rattle.std.specs.Option.{option_map_or}
 use Rattle.unix_calls.specs.declared.Arg.{Arg}
 use Rattle.unix_calls.specs.declared.Arg.TheVariants.{Zero, One, Nobody, Own, Maker, Var}
 use Rattle.unix_calls.specs.declared.Call.{Call}
@@ -118,3 +120,17 @@ child_of caller at _ = None
 -- the child of a caller whose next statement is a fork
 abbrev pub next_child : World → Pid → Progress → Option Progress
 next_child world caller at = option_and_then (child_of caller at) (next_statement world at)
+
+-- the node that a fork or a migration names
+abbrev pub node_of : Statement → Option NodeId
+node_of (Fork _ _ at) = at
+node_of (Migrate node_id) = Some node_id
+node_of _ = None
+
+-- the statement is a sleeping wait, and the reply Again
+abbrev pub is_wait_again : Statement → Reply → Bool
+is_wait_again (Wait true _ _ _ _ _) Again = true
+is_wait_again _ _ = false
+
+abbrev pub stands_again : World → Progress → Reply → Bool
+stands_again world at reply = option_map_or (λ s. is_wait_again s reply) (next_statement world at) false

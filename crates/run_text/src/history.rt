@@ -7,14 +7,12 @@ ghost use Rattle.run_text.specs.History.{IsEntry, spaced, signal_word, set_words
 
 use std::alloc::{AllocError, Global};
 use unix_calls::{Call, Entry, Event, Reply};
-use unix_names::{ALL_SIGNALS, Act, Errno, NoMemory, SigSet, Signal, WaitStatus, signal_of, word_of};
+use unix_names::{
+    ALL_SIGNALS, Act, Errno, NoMemory, SigSet, Signal, WaitStatus, signal_of, word_of,
+};
 
 /// The text of a history: a line for each entry, and the last line, `quiet` or `open`.
-pub fn put_history(
-    alloc: Global,
-    entries: &[Entry],
-    is_quiet: bool,
-) -> Result<Vec<u8>, NoMemory>
+pub fn put_history(alloc: Global, entries: &[Entry], is_quiet: bool) -> Result<Vec<u8>, NoMemory>
     requires { All IsEntry entries.now }
     ensures { IfOk result (λ bytes. bytes.items ≡ text_of entries.now is_quiet) }
 {
@@ -225,5 +223,76 @@ fn errno_text(errno: Errno) -> &'static str
         Errno::EINVAL => "EINVAL",
         Errno::ECHILD => "ECHILD",
         Errno::EAGAIN => "EAGAIN",
+    }
+}
+
+#[cfg(test)]
+mod tests {
+    use super::*;
+    use std::test::Fail;
+    use unix_names::Pid;
+
+    #[test]
+    fn writes_calls(rt: HostRuntime) -> Result<(), Fail> {
+        let set = SigSet::empty().with(Signal::Term).with(Signal::Usr1);
+        let waited = Call::Waitpid {
+            sel: -1,
+            stopped: true,
+            continued: true,
+        };
+        let grouped = Call::Setpgid {
+            pid: 0,
+            pgid: -4_294_967_295,
+        };
+        let killed = Call::Kill { target: 2, sig: 77 };
+        let caught = Call::Action {
+            sig: 17,
+            act: Act::Catch,
+        };
+        let cases = [
+            (Call::Getpgid(0), Reply::Number(2), " getpgid 0 = 2"),
+            (Call::Exit(263), Reply::NoReply, " exit 263"),
+            (
+                waited,
+                Reply::Child(Pid(3), WaitStatus::Exited(7)),
+                " waitpid -1 stopped continued = 3 exited 7",
+            ),
+            (
+                waited,
+                Reply::Child(Pid(3), WaitStatus::Stopped(Signal::Tstp)),
+                " waitpid -1 stopped continued = 3 stopped TSTP",
+            ),
+            (
+                grouped,
+                Reply::Refused(Errno::EINVAL),
+                " setpgid 0 -4294967295 = EINVAL",
+            ),
+            (killed, Reply::Fine, " kill 2 77 = ok"),
+            (caught, Reply::Fine, " action CHLD catch = ok"),
+            (
+                Call::Mask(set),
+                Reply::Set(SigSet::empty()),
+                " mask USR1 TERM = -",
+            ),
+            (Call::Pending, Reply::Set(set), " pending = USR1 TERM"),
+        ];
+        for (call, reply, line) in cases {
+            let mut text = String::new(rt.alloc());
+            put_call(&mut text, call)?;
+            put_reply(&mut text, reply)?;
+            assert_eq!(rt; text.as_str(), line);
+        }
+        Ok(())
+    }
+
+    #[test]
+    fn writes_history(rt: HostRuntime) -> Result<(), Fail> {
+        let entries = [Entry::Happened {
+            pid: Pid(1_000_002),
+            event: Event::EndedBy(Signal::Hup),
+        }];
+        let text = put_history(rt.alloc(), &entries, false).map_err(|_| Fail::from("no memory"))?;
+        assert_eq!(rt; text.as_slice(), "1000002 ended HUP\nopen\n".as_bytes());
+        Ok(())
     }
 }

@@ -249,3 +249,21 @@ fn one_script(alloc: Global, statements: Vec<Statement>) -> Result<World, FormRe
         starts,
     })
 }
+
+#[cfg(test)]
+mod tests {
+    use super::*;
+    use std::test::Fail;
+
+    #[test]
+    fn reads_one_process(rt: HostRuntime) -> Result<(), Fail> {
+        let file = "cluster 1\nscript a\ngetpid\ngetppid\nexit 5\nend\nstart 0 a p\n";
+        let world = read_form(rt.alloc(), file.as_bytes())?;
+        let script = world.scripts.get(0).ok_or("no script")?;
+        let statements = [Statement::Getpid, Statement::Getppid, Statement::Exit(5)];
+        assert_eq!(rt; script.statements.as_slice(), statements.as_slice());
+        let start = world.starts.get(0).ok_or("no start")?;
+        assert_eq!(rt; start.pid, Pid(2));
+        Ok(())
+    }
+}

@@ -1,13 +1,13 @@
-// A library with one function.
+//! The signals that are on their way to a process: its backlog, and then what its group's log has for it.
 #![tactic(auto)]
 
-ghost use Rattle.std.specs.Prelude.{◌≡◌};
-ghost use Rattle.sig_stream.specs.Echo.{echo_of};
+mod fold;
+mod laws;
+mod moves;
 
-// The `ensures` clause is the contract: what `echo` returns is `echo_of` of its argument, a definition
-// in `specs/Echo.antt`, which a caller's clause can cite too.
-pub fn echo(x: usize) -> usize
-    ensures { result ≡ echo_of x }
-{
-    x
-}
+pub use fold::{fold_tail, stream_len, tail_len};
+pub use laws::{appending_grows_streams, folding_is_generating, leaving_keeps_streams, trimming_keeps_streams};
+pub use moves::{is_listed, regroup, settle};
+
+#[cfg(test)]
+mod tests;

@@ -1,6 +1,7 @@
 // The signals, with their numbers, words and default actions.
-ghost use Rattle.std.specs.Prelude.{◌≡◌};
-ghost use Rattle.unix_names.specs.Signals.{number_of, word_of, default_of, signal_of};
+ghost use Rattle.std.specs.Prelude.{◌≡◌, ◌≢◌, ◌↔◌, Some, IsNone};
+ghost use Rattle.unix_names.specs.declared.signals.Signal.{Signal};
+ghost use Rattle.unix_names.specs.Signals.{number_of, word_of, default_of, signal_of, signal_named};
 
 /// A signal (POSIX.1-2017, XBD <signal.h>). The numbers are this project's own where the standard leaves them open.
 #[derive(Clone, Copy, Debug, PartialEq, Eq)]
@@ -80,8 +81,17 @@ pub const ALL_SIGNALS: [Signal; 17] = [
 ];
 
 /// The signal of a number. None exactly for a number that no signal has.
-#[tactic(auto, unfolding(crate::specs::Signals::signal_of))]
 pub fn signal_of(n: u32) -> Option<Signal>
+    ensures value { result ≡ signal_of n }
+    ensures none { IsNone result ↔ ((s : Signal) → number_of s ≢ n) }
+    ensures some { (s : Signal) → (result ≡ Some s) ↔ (number_of s ≡ n) }
+{
+    numbered(n)
+}
+
+// The first signal that has a number.
+#[tactic(auto, unfolding(crate::specs::Signals::signal_of))]
+fn numbered(n: u32) -> Option<Signal>
     ensures { result ≡ signal_of n }
 {
     ALL_SIGNALS.iter().copied().find(|s| number_of(*s) == n)
@@ -110,6 +120,26 @@ pub fn word_of(s: Signal) -> &'static str
         Signal::Ttou => "TTOU",
         Signal::Urg => "URG",
     }
+}
+
+/// The signal of a word. None exactly for a word that no signal has.
+pub fn signal_named(word: &[u8]) -> Option<Signal>
+    ensures value { result ≡ signal_named word.now }
+    ensures none { IsNone result ↔ ((s : Signal) → word_of s ≢ word.now) }
+    ensures some { (s : Signal) → (result ≡ Some s) ↔ (word_of s ≡ word.now) }
+{
+    named(word)
+}
+
+// The first signal that has a word.
+#[tactic(auto, unfolding(crate::specs::Signals::signal_named))]
+fn named(word: &[u8]) -> Option<Signal>
+    ensures { result ≡ signal_named word.now }
+{
+    ALL_SIGNALS
+        .iter()
+        .copied()
+        .find(|s| word_of(*s).as_bytes() == word)
 }
 
 /// What a signal does by default (POSIX.1-2017, XSH 2.4.3).

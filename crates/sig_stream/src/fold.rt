@@ -1,0 +1,83 @@
+// The length of a stream, and its fold.
+ghost use Rattle.std.specs.Prelude.{◌≡◌, ◌≤◌, ◌<◌, ◌^◌, length, drop, count_by};
+ghost use Rattle.signal_state.specs.Sig.{generated_all};
+ghost use Rattle.group_record.specs.Log.{concerns};
+ghost use Rattle.sig_stream.specs.Streams.{stream, tail, signals_for};
+
+use group_record::{Group, LogEntry};
+use signal_state::{Own, Sig};
+use unix_names::{Pid, Signal};
+use vproc_record::Vproc;
+
+/// How many signals the stream of a process has. It takes no memory.
+pub fn stream_len(v: &Vproc, g: &Group) -> u64
+    ensures { result ≡ length (stream v.now g.now) }
+{
+    let kept = v.backlog.as_slice().len();
+    let more = count_for(g.part_of(v.pid), v.pid, v.uid);
+    kept as u64 + more as u64
+}
+
+/// How many signals of its stream a process has still to take. It takes no memory.
+pub fn tail_len(v: &Vproc, g: &Group, taken: u64) -> u64
+    requires { taken ≤ length (stream v.now g.now) }
+    ensures { result ≡ length (tail taken v.now g.now) }
+{
+    stream_len(v, g) - taken
+}
+
+/// Generates the signals of the stream that were not taken, in order, and counts the whole stream as taken. It takes no memory.
+pub fn fold_tail(own: &mut Own, v: &Vproc, g: &Group)
+    requires { own.old.taken ≤ length (stream v.now g.now) }
+    ensures sig { own.new.sig ≡ generated_all own.old.sig (tail own.old.taken v.now g.now) }
+    ensures taken { own.new.taken ≡ length (stream v.now g.now) }
+{
+    let backlog = v.backlog.as_slice();
+    let passed = own.taken.min(backlog.len() as u64);
+    let after_backlog = generate_each(own.sig, after_first(backlog, passed as usize));
+    let part = g.part_of(v.pid);
+    let sig = generate_for(after_backlog, part, v.pid, v.uid, own.taken - passed);
+    let taken = stream_len(v, g);
+    *own = Own { sig, taken };
+}
+
+fn after_first(signals: &[Signal], passed: usize) -> &[Signal]
+    requires { passed ≤ length signals.now }
+    ensures { result.now ≡ drop passed signals.now }
+{
+    &signals[passed..]
+}
+
+fn count_for(entries: &[LogEntry], p: Pid, uid: u32) -> usize
+    ensures count { result ≡ count_by (concerns p uid) entries.now }
+    ensures small { result < 2 ^ 63 }
+{
+    entries.iter().filter(|e| e.concerns(p, uid)).count()
+}
+
+fn generate_each(start: Sig, signals: &[Signal]) -> Sig
+    ensures { result ≡ generated_all start signals.now }
+{
+    let mut sig = start;
+    for s in signals {
+        sig.generate(*s);
+    }
+    sig
+}
+
+fn generate_for(start: Sig, entries: &[LogEntry], p: Pid, uid: u32, passed: u64) -> Sig
+    ensures { result ≡ generated_all start (drop passed (signals_for p uid entries.now)) }
+{
+    let mut sig = start;
+    let mut left = passed;
+    for e in entries {
+        if e.concerns(p, uid) {
+            if left > 0 {
+                left -= 1;
+            } else {
+                sig.generate(e.signal);
+            }
+        }
+    }
+    sig
+}
