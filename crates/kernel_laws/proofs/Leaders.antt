@@ -21,7 +21,7 @@ use Rattle.kernel_laws.proofs.Rows.{number, pid_same, row_pid, row_here, one_row
 use Rattle.kernel_laws.proofs.Legal.{actor, after_is}
 use Rattle.kernel_laws.proofs.Steps.{Regroups, step_keeps}
 use Rattle.kernel_laws.proofs.Forms.{IsQuiet, Form, quiet, forked, regrouped, leading, step_form}
-use Rattle.kernel_laws.proofs.Boot.{IsFirst, booted_first, empty_first, all_free, boot_sound}
+use Rattle.kernel_laws.proofs.Boot.{IsFirst, boot_first, boot_sound}
 
 -- where pids, groups and sessions stay
 quiet_leads : (rows : List Row) (keep : Row → Bool) (f : Row → Row) → AreDistinct rows → IsQuiet rows f → HaveLeaders rows → HaveLeaders (map f (filter keep rows))
@@ -115,5 +115,4 @@ later_leads rows [] later sound leads legal = leads
 later_leads rows (entry ∷ before) later sound leads legal = later_leads (after rows entry) before later (step_keeps rows entry sound legal.0) (step_leads rows entry sound leads legal.0) legal.1
 
 pub sessions_led : SessionsAreLed
-sessions_led world before later own legal =
-    later_leads (boot world) before later (boot_sound world own) (first_leads (boot world) (booted_first [] world.starts empty_first own.differ own.allowed (all_free world.starts))) legal
+sessions_led world before later valid legal = later_leads (boot world) before later (boot_sound world valid) (first_leads (boot world) (boot_first world valid)) legal

@@ -7,6 +7,7 @@ pub mod Legal
 pub mod Groups
 pub mod Forks
 pub mod Steps
+pub mod Starts
 pub mod Boot
 pub mod Others
 pub mod Own

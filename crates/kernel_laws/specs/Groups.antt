@@ -15,15 +15,15 @@ use Rattle.kernel_model.specs.Refusals.{target_pid, wanted_group}
 use Rattle.kernel_model.specs.Step.{verdict, after}
 use Rattle.kernel_model.specs.Legal.{after_all, IsLegal}
 use Rattle.kernel_model.specs.Sound.{IsSound}
-use Rattle.kernel_laws.specs.Tables.{HaveOwnPids}
+use Rattle.unix_calls.specs.Valid.{IsValid}
 
 -- a row whose pid is the id of a session that has rows leads that session, and its own group
 abbrev pub HaveLeaders : List Row → Type 0
 HaveLeaders rows = (c leader : Row) → row_of rows c.pid ≡ Some c → row_of rows c.session ≡ Some leader → (leader.session ≡ c.session) × (leader.group ≡ leader.pid)
 
--- sessions are led so in each table on the way of a legal history
+-- sessions are led so in each table on the way of a legal history of a valid world
 abbrev pub SessionsAreLed : Type 0
-SessionsAreLed = (world : World) (before later : List Entry) → HaveOwnPids world.starts → IsLegal world (before ++ later) → HaveLeaders (after_all world before)
+SessionsAreLed = (world : World) (before later : List Entry) → IsValid world → IsLegal world (before ++ later) → HaveLeaders (after_all world before)
 
 -- the entry sets the group of a member of this group, or makes a process a member
 abbrev pub IsRegroupingIn : List Row → Pid → Entry → Type 0
