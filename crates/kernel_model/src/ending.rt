@@ -102,17 +102,11 @@ fn groups_at_risk(rows: &Vec<Row>) -> Result<Vec<Pid>, NoMemory>
     Ok(groups)
 }
 
-fn is_left(rows: &[Row], group: Pid) -> bool
-    ensures { result ≡ is_left rows.now group }
-{
-    is_orphaned(rows, group) && has_stopped(rows, group)
-}
-
 /// Keeps the groups that are orphaned and have a stopped member.
 fn keep_left(groups: &mut Vec<Pid>, rows: &[Row])
     ensures { groups.new.items ≡ filter (is_left rows.now) groups.old.items }
 {
-    groups.retain(|group| is_left(rows, *group));
+    groups.retain(|group| is_orphaned(rows, *group) && has_stopped(rows, *group));
 }
 
 /// Ends a process: its row, its children, the signal for its parent, and those for the groups that it leaves orphaned.

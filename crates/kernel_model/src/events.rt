@@ -19,28 +19,16 @@ pub fn can_call(row: &Row) -> bool
     !row.sig.stopped && row.sig.deliverable().is_empty()
 }
 
-fn is_deliverable(row: &Row, signal: Signal) -> bool
-    ensures { result ≡ is_deliverable row.now signal }
-{
-    row.sig.deliverable().has(signal)
-}
-
-fn has_default_action(row: &Row, signal: Signal) -> bool
-    ensures { result ≡ has_default_action row.now signal }
-{
-    !row.sig.ignored.has(signal) && !row.sig.caught.has(signal)
-}
-
 fn acts_by_default(row: &Row, signal: Signal) -> bool
     ensures { result ≡ acts_by_default row.now signal }
 {
-    is_deliverable(row, signal) && has_default_action(row, signal)
+    row.sig.deliverable().has(signal) && !row.sig.ignored.has(signal) && !row.sig.caught.has(signal)
 }
 
 fn is_caught(row: &Row, signal: Signal) -> bool
     ensures { result ≡ is_caught row.now signal }
 {
-    is_deliverable(row, signal) && row.sig.caught.has(signal)
+    row.sig.deliverable().has(signal) && row.sig.caught.has(signal)
 }
 
 fn is_stop_signal(signal: Signal) -> bool
@@ -49,17 +37,11 @@ fn is_stop_signal(signal: Signal) -> bool
     matches!(default_of(signal), DefaultAct::StopIt)
 }
 
-fn is_plain_stop(signal: Signal) -> bool
-    ensures { result ≡ is_plain_stop signal }
-{
-    matches!(signal, Signal::Stop)
-}
-
 /// Whether a stop signal from a terminal comes to a member of an orphaned group.
 fn is_spared(rows: &[Row], row: &Row, signal: Signal) -> bool
     ensures { result ≡ is_spared rows.now row.now signal }
 {
-    is_stop_signal(signal) && !is_plain_stop(signal) && is_orphaned(rows, row.group)
+    is_stop_signal(signal) && signal != Signal::Stop && is_orphaned(rows, row.group)
 }
 
 fn is_discarded(rows: &[Row], row: &Row, signal: Signal) -> bool
@@ -73,7 +55,7 @@ fn stops(rows: &[Row], row: &Row, signal: Signal) -> bool
 {
     acts_by_default(row, signal)
         && is_stop_signal(signal)
-        && (is_plain_stop(signal) || !is_orphaned(rows, row.group))
+        && (signal == Signal::Stop || !is_orphaned(rows, row.group))
 }
 
 fn ends(row: &Row, signal: Signal) -> bool

@@ -30,10 +30,11 @@ impl Model for Kernel {
     ghost view = { λ kernel. kernel.rows.items };
 }
 
-/// The row of a start that joins the group and session of another row, or leads its own.
-fn row_with(start: &Start, joined: Option<Row>) -> Row
-    ensures { result ≡ row_with start.now joined }
+/// The row of a start, whose earlier ones have these rows. It joins the group and session of one of them, or leads its own.
+fn first_row(earlier: &[Row], start: &Start) -> Row
+    ensures { result ≡ first_row earlier.now start.now }
 {
+    let joined = start.joined.and_then(|number| earlier.get(number));
     let (group, session) = match joined {
         None => (start.pid, start.pid),
         Some(row) => (row.group, row.session),
@@ -49,22 +50,6 @@ fn row_with(start: &Start, joined: Option<Row>) -> Row
         execed: false,
         sig: Sig::fresh(),
     }
-}
-
-fn joined_row(earlier: &[Row], joined: Option<usize>) -> Option<Row>
-    ensures { result ≡ joined_row earlier.now joined }
-{
-    match joined {
-        None => None,
-        Some(number) => earlier.get(number).copied(),
-    }
-}
-
-/// The row of a start, whose earlier ones have these rows.
-fn first_row(earlier: &[Row], start: &Start) -> Row
-    ensures { result ≡ first_row earlier.now start.now }
-{
-    row_with(start, joined_row(earlier, start.joined))
 }
 
 fn boot_rows(alloc: Global, starts: &[Start]) -> Result<Vec<Row>, NoMemory>

@@ -15,3 +15,6 @@ mod verdict;
 pub use kernel::Kernel;
 pub use rows::Row;
 pub use verdict::{Rule, Verdict};
+
+#[cfg(test)]
+mod tests;

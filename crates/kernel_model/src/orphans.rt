@@ -23,16 +23,11 @@ fn is_link(rows: &[Row], member: &Row) -> bool
     is_living(member.life) && is_outside_parent(member, find_row(rows, member.parent))
 }
 
-fn is_link_of(rows: &[Row], group: Pid, row: &Row) -> bool
-    ensures { result ≡ is_link_of rows.now group row.now }
-{
-    row.group == group && is_link(rows, row)
-}
-
 fn has_link(rows: &[Row], group: Pid) -> bool
     ensures { result ≡ list_any (is_link_of rows.now group) rows.now }
 {
-    rows.iter().any(|row| is_link_of(rows, group, row))
+    rows.iter()
+        .any(|row| row.group == group && is_link(rows, row))
 }
 
 /// Whether the parent of each living member of a group is itself a member or is in another session.
@@ -42,15 +37,10 @@ pub fn is_orphaned(rows: &[Row], group: Pid) -> bool
     !has_link(rows, group)
 }
 
-fn is_stopped_in(group: Pid, row: &Row) -> bool
-    ensures { result ≡ is_stopped_in group row.now }
-{
-    row.group == group && is_stopped(row.life)
-}
-
 /// Whether a group has a stopped member.
 pub fn has_stopped(rows: &[Row], group: Pid) -> bool
     ensures { result ≡ list_any (is_stopped_in group) rows.now }
 {
-    rows.iter().any(|row| is_stopped_in(group, row))
+    rows.iter()
+        .any(|row| row.group == group && is_stopped(row.life))
 }

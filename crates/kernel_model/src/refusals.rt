@@ -44,22 +44,17 @@ fn fork_refusal(rows: &[Row], caller: &Row) -> Option<Errno>
     }
 }
 
-fn selects(caller: &Row, selector: Selector, child: &Row) -> bool
-    ensures { result ≡ selects caller.now selector child.now }
-{
-    match selector {
-        Selector::Any => true,
-        Selector::OwnGroup => child.group == caller.group,
-        Selector::One(pid) => child.pid == pid,
-        Selector::InGroup(group) => child.group == group,
-    }
-}
-
 /// Whether a row is that of a child of the caller that the selector names.
 pub fn is_match(caller: &Row, selector: Selector, row: &Row) -> bool
     ensures { result ≡ is_match caller.now selector row.now }
 {
-    row.parent == caller.pid && selects(caller, selector, row)
+    let is_selected = match selector {
+        Selector::Any => true,
+        Selector::OwnGroup => row.group == caller.group,
+        Selector::One(pid) => row.pid == pid,
+        Selector::InGroup(group) => row.group == group,
+    };
+    row.parent == caller.pid && is_selected
 }
 
 fn has_match(rows: &[Row], caller: &Row, selector: Selector) -> bool
@@ -123,15 +118,6 @@ fn is_nobody(rows: &[Row], caller: &Row, target: Target) -> bool
     }
 }
 
-fn is_system(target: Target) -> bool
-    ensures { result ≡ is_system target }
-{
-    match target {
-        Target::One(pid) => pid == SYSTEM,
-        Target::OwnGroup | Target::InGroup(_) => false,
-    }
-}
-
 fn is_forbidden(rows: &[Row], caller: &Row, target: Target, signal: u32) -> bool
     ensures { result ≡ is_forbidden rows.now caller.now target signal }
 {
@@ -143,7 +129,7 @@ fn kill_refusal(rows: &[Row], caller: &Row, target: Target, signal: u32) -> Opti
 {
     if !is_sendable(signal) {
         Some(Errno::EINVAL)
-    } else if is_system(target) {
+    } else if target == Target::One(SYSTEM) {
         Some(Errno::EPERM)
     } else if is_nobody(rows, caller, target) {
         Some(Errno::ESRCH)
@@ -172,29 +158,11 @@ pub fn wanted_group(caller: &Row, number: u32, group: u32) -> Pid
     }
 }
 
-fn is_own(caller: &Row, target: &Row) -> bool
-    ensures { result ≡ is_own caller.now target.now }
-{
-    target.pid == caller.pid || (target.parent == caller.pid && is_living(target.life))
-}
-
-fn is_execed_child(caller: &Row, target: &Row) -> bool
-    ensures { result ≡ is_execed_child caller.now target.now }
-{
-    target.parent == caller.pid && target.execed
-}
-
-fn is_in_session_group(caller: &Row, group: Pid, row: &Row) -> bool
-    ensures { result ≡ is_in_session_group caller.now group row.now }
-{
-    row.group == group && row.session == caller.session
-}
-
 fn has_session_group(rows: &[Row], caller: &Row, group: Pid) -> bool
     ensures { result ≡ list_any (is_in_session_group caller.now group) rows.now }
 {
     rows.iter()
-        .any(|row| is_in_session_group(caller, group, row))
+        .any(|row| row.group == group && row.session == caller.session)
 }
 
 fn is_fixed_in_group(rows: &[Row], caller: &Row, target: &Row, group: Pid) -> bool
@@ -211,9 +179,9 @@ fn regroup_refusal(rows: &[Row], caller: &Row, target: Option<Row>, group: Pid) 
     let Some(target) = target else {
         return Some(Errno::ESRCH);
     };
-    if !is_own(caller, &target) {
+    if target.pid != caller.pid && !(target.parent == caller.pid && is_living(target.life)) {
         Some(Errno::ESRCH)
-    } else if is_execed_child(caller, &target) {
+    } else if target.parent == caller.pid && target.execed {
         Some(Errno::EACCES)
     } else if is_fixed_in_group(rows, caller, &target, group) {
         Some(Errno::EPERM)

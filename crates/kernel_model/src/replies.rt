@@ -9,18 +9,6 @@ use crate::rows::{Row, find_named, find_row};
 use unix_calls::{Call, Reply, Selector, selector_of};
 use unix_names::{Errno, Life, NOBODY, SYSTEM, SigSet, WaitStatus};
 
-fn is_fine(reply: &Reply) -> bool
-    ensures { result ≡ is_fine reply.now }
-{
-    matches!(*reply, Reply::Fine)
-}
-
-fn is_no_reply(reply: &Reply) -> bool
-    ensures { result ≡ is_no_reply reply.now }
-{
-    matches!(*reply, Reply::NoReply)
-}
-
 fn is_number(number: u32, reply: &Reply) -> bool
     ensures { result ≡ is_number number reply.now }
 {
@@ -57,16 +45,10 @@ fn is_session_of(row: Option<Row>, reply: &Reply) -> bool
     }
 }
 
-fn uses_number(number: u32, row: &Row) -> bool
-    ensures { result ≡ uses_number number row.now }
-{
-    row.pid.0 == number || row.group.0 == number || row.session.0 == number
-}
-
 fn is_used(rows: &[Row], number: u32) -> bool
     ensures { result ≡ list_any (uses_number number) rows.now }
 {
-    rows.iter().any(|row| uses_number(number, row))
+    rows.iter().any(|row| row.pid.0 == number || row.group.0 == number || row.session.0 == number)
 }
 
 /// Whether a number may be the pid of a new process.
@@ -105,18 +87,6 @@ fn report_of(child: &Row, stopped: bool, continued: bool) -> Option<WaitStatus>
     }
 }
 
-fn is_ready_match(
-    caller: &Row,
-    selector: Selector,
-    stopped: bool,
-    continued: bool,
-    row: &Row,
-) -> bool
-    ensures { result ≡ is_ready_match caller.now selector stopped continued row.now }
-{
-    is_match(caller, selector, row) && report_of(row, stopped, continued).is_some()
-}
-
 fn has_ready_match(
     rows: &[Row],
     caller: &Row,
@@ -126,7 +96,8 @@ fn has_ready_match(
 ) -> bool
     ensures { result ≡ list_any (is_ready_match caller.now selector stopped continued) rows.now }
 {
-    rows.iter().any(|row| is_ready_match(caller, selector, stopped, continued, row))
+    rows.iter().any(|row| is_match(caller, selector, row)
+        && report_of(row, stopped, continued).is_some())
 }
 
 fn is_same_status(status: WaitStatus, other: WaitStatus) -> bool
@@ -199,14 +170,14 @@ fn is_answer(rows: &[Row], caller: &Row, call: &Call, reply: &Reply) -> bool
             stopped,
             continued,
         } => is_wait_answer(rows, caller, selector_of(sel), stopped, continued, reply),
-        Call::Exit(_) => is_no_reply(reply),
+        Call::Exit(_) => matches!(*reply, Reply::NoReply),
         Call::Mask(_) => is_set(caller.sig.mask, reply),
         Call::Pending => is_set(caller.sig.pending, reply),
         Call::Exec
         | Call::Kill { .. }
         | Call::Setpgid { .. }
         | Call::Action { .. }
-        | Call::Migrate => is_fine(reply),
+        | Call::Migrate => matches!(*reply, Reply::Fine),
     }
 }
 
