@@ -1,30 +1,26 @@
 -- the first table of a world, and the tables of its legal histories
-use Rattle.std.proofs.Common.{◌≡◌, ◌≢◌, ◌==◌, ◌≤◌, ◌+◌, ◌⊎◌, inl, inr, ◌++◌, ℕ, zero, suc, Bool, true, false, cond, not, List, [], ◌∷◌, length, refl, sym, ap, ◌∙◌, subst, arith, Option, None, Some, All}
-use Rattle.std.specs.Prelude.{filter, slice_get}
+use Rattle.std.proofs.Common.{◌≡◌, ◌≢◌, ◌==◌, inl, inr, ◌++◌, ℕ, zero, suc, Bool, true, false, cond, List, [], ◌∷◌, length, refl, sym, ap, ◌∙◌, subst, arith, Option, None, Some, All}
+use Rattle.std.specs.Prelude.{slice_get}
 use Rattle.std.specs.Option.{option_or}
 use Rattle.std.proofs.lemmas.Bool.{eqb-true, ne_eqb}
-use Rattle.std.proofs.lemmas.List.Elements.{All-head, All-tail}
 use Rattle.unix_names.specs.declared.Pid.{Pid}
 use Rattle.unix_names.specs.declared.Life.TheVariants.{Runs}
-use Rattle.unix_names.specs.States.{is_living}
 use Rattle.unix_calls.specs.declared.Entry.{Entry}
 use Rattle.unix_calls.specs.declared.Start.{Start}
-use Rattle.unix_calls.specs.declared.World.{World}
 use Rattle.signal_state.specs.Signals.{IsKept}
 use Rattle.signal_state.specs.Sig.{fresh}
 use Rattle.kernel_model.specs.declared.rows.Row.{Row}
-use Rattle.kernel_model.specs.declared.verdict.Verdict.TheVariants.{Legal}
-use Rattle.kernel_model.specs.Rows.{pid, is_pid, is_parent, is_stopped, row_of, child_count}
-use Rattle.kernel_model.specs.Step.{verdict, after}
-use Rattle.kernel_model.specs.Legal.{joined_row, first_group, first_session, row_with, first_row, booted, boot, after_entries, after_all, IsLegalFrom, IsLegal}
-use Rattle.kernel_model.specs.Sound.{AreDistinct, IsAlive, IsSoundRow, IsSound}
-use Rattle.list_laws.specs.Keyed.{at, Distinct, one_if}
+use Rattle.kernel_model.specs.Rows.{is_parent, is_stopped, row_of, child_count}
+use Rattle.kernel_model.specs.Step.{after}
+use Rattle.kernel_model.specs.Legal.{joined_row, row_with, first_row, booted, boot, after_entries, IsLegalFrom}
+use Rattle.kernel_model.specs.Sound.{IsSoundRow, IsSound}
+use Rattle.list_laws.specs.Keyed.{at, Distinct}
 use Rattle.list_laws.proofs.Finding.{at-append, comes-append, distinct-append, at-append_none, absent_differs, absent_rest, same_flip, same_number}
 use Rattle.list_laws.proofs.Elements.{filter-same}
 use Rattle.list_laws.proofs.Filters.{filter-none, some_same}
-use Rattle.list_laws.proofs.Counts.{count-append}
-use Rattle.kernel_laws.specs.Tables.{IsOwnPid, HaveOwnPids, BootIsSound, LegalTablesAreSound, StepKeepsSound}
-use Rattle.kernel_laws.proofs.Rows.{number, distinct_from, distinct_to, pid_same, row_pid, row_here}
+use Rattle.kernel_laws.specs.Tables.{BootIsSound, LegalTablesAreSound}
+use Rattle.kernel_laws.proofs.Starts.{start_number, IsOwnPid, AreOwnPids, HaveOwnPids, valid_pids}
+use Rattle.kernel_laws.proofs.Rows.{number, distinct_to, pid_same, row_here}
 use Rattle.kernel_laws.proofs.SignalFacts.{none_in_empty}
 use Rattle.kernel_laws.proofs.Steps.{step_keeps}
 
@@ -158,25 +154,22 @@ module _ (rows : List Row) (start : Start) (first : IsFirst rows) (own : IsOwnPi
       }
 
 -- ---- all starts
-abbrev start_pid : Start → ℕ
-start_pid start = start.pid.0
-
 -- no row has the pid of one of these starts
 abbrev AreFree : List Row → List Start → Type 0
 AreFree rows [] = Unit {0}
 AreFree rows (start ∷ starts) = (row_of rows start.pid ≡ None) × AreFree rows starts
 
-still_free : (rows : List Row) (x : Row) (q : ℕ) (starts : List Start) → x.pid.0 ≡ q → at start_pid q starts ≡ None → AreFree rows starts → AreFree (rows ++ x ∷ []) starts
+still_free : (rows : List Row) (x : Row) (q : ℕ) (starts : List Start) → x.pid.0 ≡ q → at start_number q starts ≡ None → AreFree rows starts → AreFree (rows ++ x ∷ []) starts
 still_free rows x q [] is absent free = tt
 still_free rows x q (start ∷ starts) is absent free = (
-  at-append_none number start.pid.0 rows x (ap (λ n. n == start.pid.0) is ∙ same_flip _ _ (absent_differs start_pid q start starts absent)) free.0,
-  still_free rows x q starts is (absent_rest start_pid q start starts absent) free.1,
+  at-append_none number start.pid.0 rows x (ap (λ n. n == start.pid.0) is ∙ same_flip _ _ (absent_differs start_number q start starts absent)) free.0,
+  still_free rows x q starts is (absent_rest start_number q start starts absent) free.1,
 )
 
-pub booted_first : (rows : List Row) (starts : List Start) → IsFirst rows → Distinct start_pid starts → All IsOwnPid starts → AreFree rows starts → IsFirst (booted rows starts)
+pub booted_first : (rows : List Row) (starts : List Start) → IsFirst rows → Distinct start_number starts → AreOwnPids starts → AreFree rows starts → IsFirst (booted rows starts)
 booted_first rows [] first d own free = first
 booted_first rows (start ∷ starts) first d own free =
-    booted_first (rows ++ first_row rows start ∷ []) starts (started rows start first (All-head IsOwnPid start starts own) free.0) d.1 (All-tail IsOwnPid start starts own) (still_free rows (first_row rows start) start.pid.0 starts refl d.0 free.1)
+    booted_first (rows ++ first_row rows start ∷ []) starts (started rows start first own.0 free.0) d.1 own.1 (still_free rows (first_row rows start) start.pid.0 starts refl d.0 free.1)
 
 pub all_free : (starts : List Start) → AreFree [] starts
 all_free [] = tt
@@ -185,8 +178,11 @@ all_free (start ∷ starts) = (refl, all_free starts)
 pub empty_first : IsFirst []
 empty_first = record { distinct = tt; each = λ c e. cc }
 
+pub boot_first : (world : World) → IsValid world → IsFirst (boot world)
+boot_first world valid = let own = valid_pids world valid in booted_first [] world.starts empty_first own.differ own.allowed (all_free world.starts)
+
 pub boot_sound : BootIsSound
-boot_sound world own = first_sound (boot world) (booted_first [] world.starts empty_first own.differ own.allowed (all_free world.starts))
+boot_sound world valid = first_sound (boot world) (boot_first world valid)
 
 -- ---- legal histories
 after_sound : (rows : List Row) (before later : List Entry) → IsSound rows → IsLegalFrom rows (before ++ later) → IsSound (after_entries rows before)
@@ -194,4 +190,4 @@ after_sound rows [] later sound legal = sound
 after_sound rows (entry ∷ before) later sound legal = after_sound (after rows entry) before later (step_keeps rows entry sound legal.0) legal.1
 
 pub legal_sound : LegalTablesAreSound
-legal_sound world before later own legal = after_sound (boot world) before later (boot_sound world own) legal
+legal_sound world before later valid legal = after_sound (boot world) before later (boot_sound world valid) legal

@@ -1,5 +1,5 @@
 -- the changes of rows that keep a table sound one row at a time
-use Rattle.std.proofs.Common.{inr, ◌≡◌, ◌==◌, ◌&&◌, ℕ, Bool, true, false, cond, not, List, [], refl, sym, ap, ◌∙◌, Option, None, Some}
+use Rattle.std.proofs.Common.{inr, ◌≡◌, ◌&&◌, ℕ, Bool, true, false, cond, not, List, [], refl, sym, ◌∙◌, None, Some}
 use Rattle.std.specs.Prelude.{map, filter}
 use Rattle.unix_names.specs.declared.Pid.{Pid}
 use Rattle.unix_names.specs.declared.Act.{Act}
@@ -11,16 +11,16 @@ use Rattle.unix_names.specs.declared.Signal.{Signal}
 use Rattle.unix_names.specs.declared.Signal.TheVariants.{Kill, Stop}
 use Rattle.unix_names.specs.States.{is_living}
 use Rattle.signal_state.specs.Signals.{Signals, IsKept}
-use Rattle.signal_state.specs.Sig.{generated_all, after_exec, with_action, with_mask, delivered, stopped_by, resumed}
+use Rattle.signal_state.specs.Sig.{after_exec, with_action, with_mask, delivered, stopped_by, resumed}
 use Rattle.signal_state.proofs.Folds.{kept-generated_all, stopped-generated_all}
 use Rattle.kernel_model.specs.declared.rows.Row.{Row}
-use Rattle.kernel_model.specs.Rows.{is_pid, is_parent, is_stopped}
+use Rattle.kernel_model.specs.Rows.{is_pid}
 use Rattle.kernel_model.specs.Sent.{receives, received}
 use Rattle.kernel_model.specs.Events.{delivered_at, stopped_at, continued_at}
 use Rattle.kernel_model.specs.Step.{execed_at, is_ended_at, reported_at, acting_at, masked_at}
 use Rattle.kernel_model.specs.Sound.{IsSound}
 use Rattle.kernel_laws.proofs.SignalFacts.{kept_choice, kept-after_exec, kept-with_mask, kept-delivered, kept-stopped_by, kept-resumed, kept-action}
-use Rattle.kernel_laws.proofs.Plain.{IsRowKept, IsPlain, IsLocal, local_sound, plain_sound}
+use Rattle.kernel_laws.proofs.Plain.{IsRowKept, local_sound, plain_sound}
 
 stopped_choice : (b : Bool) (x y : Signals) → x.stopped ≡ y.stopped → (cond b x y).stopped ≡ y.stopped
 stopped_choice true x y e = e
@@ -132,7 +132,7 @@ reported_none : (b : Bool) (c : Row) → c.change ≡ None → cond b None c.cha
 reported_none true c e = refl
 reported_none false c e = e
 
-living_stays : (b : Bool) (l : Life) → is_living l ≡ true → not (b && not (is_living l)) ≡ true
+pub living_stays : (b : Bool) (l : Life) → is_living l ≡ true → not (b && not (is_living l)) ≡ true
 living_stays true l a = rw a
 living_stays false l a = refl
 

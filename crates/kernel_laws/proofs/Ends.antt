@@ -1,17 +1,16 @@
 -- the end of a process: the table before the signals is one map of one filter, and it is sound
-use Rattle.std.proofs.Common.{◌≡◌, ◌≢◌, ◌==◌, ◌&&◌, ◌⊎◌, inl, inr, ℕ, Bool, true, false, cond, not, List, refl, sym, ap, ◌∙◌, Option, None, Some}
+use Rattle.std.proofs.Common.{◌≡◌, ◌==◌, ◌&&◌, ◌⊎◌, inl, inr, Bool, true, false, cond, not, List, refl, sym, ap, ◌∙◌, None, Some}
 use Rattle.std.specs.Prelude.{map, filter}
 use Rattle.std.specs.Option.{option_map}
 use Rattle.unix_names.specs.declared.Pid.{Pid}
 use Rattle.unix_names.specs.declared.Signal.{Signal}
-use Rattle.unix_names.specs.declared.Life.{Life}
 use Rattle.unix_names.specs.declared.Life.TheVariants.{Ended}
 use Rattle.unix_names.specs.declared.WaitStatus.{WaitStatus}
 use Rattle.unix_names.specs.States.{is_living}
 use Rattle.kernel_model.specs.declared.rows.Row.{Row}
-use Rattle.kernel_model.specs.Rows.{pid, is_pid, is_parent, is_stopped, row_of}
+use Rattle.kernel_model.specs.Rows.{pid, is_pid, is_parent, row_of}
 use Rattle.kernel_model.specs.Sent.{receives, received}
-use Rattle.kernel_model.specs.Ending.{ended_at, vanishes, is_vanishing, with_end, given_up, is_ended_child, without_children, rows_left, sent_by_end, after_end}
+use Rattle.kernel_model.specs.Ending.{ended_at, is_vanishing, given_up, is_ended_child, rows_left, sent_by_end, after_end}
 use Rattle.kernel_model.specs.Sound.{AreDistinct, IsSound}
 use Rattle.list_laws.specs.Keyed.{option_filter}
 use Rattle.list_laws.proofs.Filters.{filter-map, filter-filter, map-map, and_false, some_same, mapped_some, option_map-map}
@@ -35,7 +34,7 @@ left_is rows r w =
     ∙ map-map (given_up r.pid) (ended_at r.pid w) (filter (is_left rows r w) rows)
 
 -- another living row than the one that ends is left, and lives
-other_left : (rows : List Row) (r : Row) (w : WaitStatus) (d : Row) → is_pid r.pid d ≡ false → is_living d.life ≡ true → is_left rows r w d ≡ true
+pub other_left : (rows : List Row) (r : Row) (w : WaitStatus) (d : Row) → is_pid r.pid d ≡ false → is_living d.life ≡ true → is_left rows r w d ≡ true
 other_left rows r w d ne a = rw (ne, a, and_false (is_parent r.pid d))
 
 other_lives : (r : Row) (w : WaitStatus) (d : Row) → is_pid r.pid d ≡ false → is_living d.life ≡ true → is_living (left r w d).life ≡ true

@@ -1,22 +1,22 @@
 -- a fork adds a row whose pid was no row's pid, group or session
-use Rattle.std.proofs.Common.{◌≡◌, ◌≢◌, ◌==◌, ◌&&◌, ◌||◌, ◌+◌, ◌≤◌, ◌<◌, ◌⊎◌, inl, inr, ◌++◌, ℕ, Bool, true, false, cond, not, List, [], ◌∷◌, length, refl, sym, ap, ◌∙◌, subst, arith, Option, None, Some}
+use Rattle.std.proofs.Common.{◌≡◌, ◌≢◌, ◌==◌, ◌&&◌, ◌||◌, ◌≤◌, ◌<◌, ◌⊎◌, inl, inr, ◌++◌, ℕ, Bool, true, false, not, List, [], ◌∷◌, length, refl, sym, ap, ◌∙◌, subst, arith, Option, None, Some}
 use Rattle.std.specs.Prelude.{filter, nat_le}
 use Rattle.std.specs.List.{list_any}
 use Rattle.std.specs.Option.{option_or}
-use Rattle.std.proofs.lemmas.Bool.{eqb-true, eq-eqb, and_parts, or_parts, leb-true, leb-false}
+use Rattle.std.proofs.lemmas.Bool.{eqb-true, eq-eqb, and_parts, or_parts, leb-true}
 use Rattle.unix_names.specs.declared.Pid.{Pid}
 use Rattle.unix_names.specs.States.{is_living}
 use Rattle.kernel_model.specs.declared.rows.Row.{Row}
-use Rattle.kernel_model.specs.Rows.{pid, is_pid, is_parent, row_of, child_count}
+use Rattle.kernel_model.specs.Rows.{pid, is_parent, row_of, child_count}
 use Rattle.kernel_model.specs.Replies.{uses_number, is_fresh}
 use Rattle.kernel_model.specs.Step.{newborn}
-use Rattle.kernel_model.specs.Sound.{AreDistinct, IsAlive, IsSoundRow, IsSound}
-use Rattle.list_laws.specs.Keyed.{at, one_if}
+use Rattle.kernel_model.specs.Sound.{IsAlive, IsSoundRow, IsSound}
+use Rattle.list_laws.specs.Keyed.{one_if}
 use Rattle.list_laws.proofs.Finding.{at-append, comes-append, distinct-append}
 use Rattle.list_laws.proofs.Elements.{any_no}
 use Rattle.list_laws.proofs.Counts.{count-append}
 use Rattle.kernel_laws.specs.Effects.{IsUnused}
-use Rattle.kernel_laws.proofs.Rows.{number, distinct_from, distinct_to, pid_same, row_pid, row_here}
+use Rattle.kernel_laws.proofs.Rows.{number, distinct_from, distinct_to, row_pid, row_here}
 use Rattle.kernel_laws.proofs.SignalFacts.{kept-child}
 use Rattle.kernel_laws.proofs.Legal.{not_true}
 

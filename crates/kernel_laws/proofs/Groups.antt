@@ -1,22 +1,21 @@
 -- a process goes to another group, or leads a new session
-use Rattle.std.proofs.Common.{◌≡◌, ◌≢◌, ◌==◌, ◌&&◌, ◌||◌, ◌≤◌, ◌⊎◌, inl, inr, ℕ, ℤ, pos, negsuc, Bool, true, false, cond, not, List, length, refl, sym, ap, ◌∙◌, subst, arith, Option, None, Some}
-use Rattle.std.specs.Prelude.{map, filter}
+use Rattle.std.proofs.Common.{◌≡◌, ◌≢◌, ◌==◌, ◌&&◌, ◌≤◌, ◌⊎◌, inl, inr, Bool, true, false, cond, List, refl, sym, ap, ◌∙◌, subst, arith, Option, None, Some}
+use Rattle.std.specs.Prelude.{map}
 use Rattle.std.specs.List.{list_any}
 use Rattle.std.specs.Option.{option_map}
-use Rattle.std.proofs.lemmas.Bool.{eqb-true, eq-eqb, and_parts, or_parts, or_cases}
+use Rattle.std.proofs.lemmas.Bool.{eqb-true, eq-eqb, and_parts}
 use Rattle.unix_names.specs.declared.Pid.{Pid}
 use Rattle.unix_names.specs.States.{is_living}
 use Rattle.signal_state.specs.Signals.{IsKept}
 use Rattle.kernel_model.specs.declared.rows.Row.{Row}
-use Rattle.kernel_model.specs.Rows.{is_same, is_pid, is_parent, in_group, in_session, is_session_leader, is_stopped, row_of, child_count}
-use Rattle.kernel_model.specs.Refusals.{is_in_session_group, is_fixed_in_group}
+use Rattle.kernel_model.specs.Rows.{is_same, is_pid, is_parent, in_group, in_session, is_stopped, row_of, child_count}
 use Rattle.kernel_model.specs.Step.{regrouped_at, leading_at}
-use Rattle.kernel_model.specs.Sound.{AreDistinct, IsAlive, IsSoundRow, IsSound}
-use Rattle.list_laws.proofs.Filters.{mapped_some, length-filter-map}
+use Rattle.kernel_model.specs.Sound.{IsAlive, IsSoundRow, IsSound}
+use Rattle.list_laws.proofs.Filters.{length-filter-map}
 use Rattle.list_laws.proofs.Finding.{at-map, distinct-map, comes-map}
 use Rattle.list_laws.proofs.Elements.{any_found, any_no}
 use Rattle.list_laws.proofs.Counts.{count_at_most}
-use Rattle.kernel_laws.proofs.Rows.{number, distinct_from, distinct_to, pid_same, row_pid, row_here, one_row}
+use Rattle.kernel_laws.proofs.Rows.{number, distinct_from, distinct_to, pid_same, row_here, one_row}
 
 -- ---- maps that change groups and sessions alone
 pub record IsRegrouping (f : Row → Row) : Type 0 where

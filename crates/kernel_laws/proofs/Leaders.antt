@@ -1,30 +1,27 @@
 -- sessions are led
-use Rattle.std.proofs.Common.{◌≡◌, ◌≢◌, ◌==◌, ◌&&◌, ◌⊎◌, inl, inr, ◌++◌, ℕ, Bool, true, false, cond, not, List, [], ◌∷◌, refl, sym, ap, ◌∙◌, subst, Option, None, Some}
+use Rattle.std.proofs.Common.{◌≡◌, ◌==◌, ◌⊎◌, inl, inr, ◌++◌, ℕ, Bool, true, false, cond, List, [], ◌∷◌, refl, sym, ap, ◌∙◌, subst, Some}
 use Rattle.std.specs.Prelude.{map, filter}
 use Rattle.std.specs.List.{list_any}
 use Rattle.std.proofs.lemmas.Bool.{eqb-true, eq-eqb, or_parts}
 use Rattle.unix_names.specs.declared.Pid.{Pid}
 use Rattle.unix_calls.specs.declared.Entry.{Entry}
-use Rattle.unix_calls.specs.declared.World.{World}
 use Rattle.kernel_model.specs.declared.rows.Row.{Row}
 use Rattle.kernel_model.specs.declared.verdict.Verdict.TheVariants.{Legal}
-use Rattle.kernel_model.specs.Rows.{is_same, is_pid, in_group, in_session, is_session_leader, row_of}
-use Rattle.kernel_model.specs.Refusals.{is_fixed_in_group, is_in_session_group}
+use Rattle.kernel_model.specs.Rows.{is_pid, in_group, is_session_leader, row_of}
+use Rattle.kernel_model.specs.Refusals.{is_fixed_in_group}
 use Rattle.kernel_model.specs.Step.{process_of, verdict, newborn, regrouped_at, leading_at, after}
-use Rattle.kernel_model.specs.Legal.{boot, after_entries, after_all, IsLegalFrom, IsLegal}
+use Rattle.kernel_model.specs.Legal.{boot, after_entries, IsLegalFrom}
 use Rattle.kernel_model.specs.Sound.{AreDistinct, IsSound}
-use Rattle.list_laws.specs.Keyed.{at}
 use Rattle.list_laws.proofs.Filters.{some_same}
 use Rattle.list_laws.proofs.Finding.{comes-append, comes-map}
 use Rattle.list_laws.proofs.Elements.{any_no}
-use Rattle.kernel_laws.specs.Tables.{HaveOwnPids}
 use Rattle.kernel_laws.specs.Effects.{IsUnused}
 use Rattle.kernel_laws.specs.Groups.{HaveLeaders, SessionsAreLed}
 use Rattle.kernel_laws.proofs.Rows.{number, pid_same, row_pid, row_here, one_row, comes}
 use Rattle.kernel_laws.proofs.Legal.{actor, after_is}
 use Rattle.kernel_laws.proofs.Steps.{Regroups, step_keeps}
 use Rattle.kernel_laws.proofs.Forms.{IsQuiet, Form, quiet, forked, regrouped, leading, step_form}
-use Rattle.kernel_laws.proofs.Boot.{IsFirst, booted_first, empty_first, all_free, boot_sound}
+use Rattle.kernel_laws.proofs.Boot.{IsFirst, boot_first, boot_sound}
 
 -- where pids, groups and sessions stay
 quiet_leads : (rows : List Row) (keep : Row → Bool) (f : Row → Row) → AreDistinct rows → IsQuiet rows f → HaveLeaders rows → HaveLeaders (map f (filter keep rows))
@@ -32,8 +29,7 @@ quiet_leads rows keep f distinct q leads c' l' hc hl =
     let c = comes rows keep f q.pid distinct c'.pid c' hc in
     let l = comes rows keep f q.pid distinct c'.session l' hl in
     let same : c'.session ≡ c.from.session = ap (λ x. x.session) c.is ∙ q.session c.from in
-    let was = leads c.from l.from (row_here rows c'.pid c.from c.there) (ap (row_of rows) (sym same) ∙ l.there) in
-    (
+    let was = leads c.from l.from (row_here rows c'.pid c.from c.there) (ap (row_of rows) (sym same) ∙ l.there) in (
       ap (λ x. x.session) l.is ∙ q.session l.from ∙ was.0 ∙ sym same,
       ap (λ x. x.group) l.is ∙ q.group l.from ∙ was.1 ∙ sym (q.pid l.from) ∙ ap (λ x. x.pid) (sym l.is),
     )
@@ -60,8 +56,7 @@ regrouped_leads rows r p g t leads c' l' hc hl =
     let l = comes-map number number (regrouped_at p g) (λ x. refl) c'.session.0 rows l' hl in
     let same : c'.session ≡ c.0.session = ap (λ x. x.session) c.2 in
     let there : row_of rows c.0.session ≡ Some l.0 = ap (row_of rows) (sym same) ∙ l.1 in
-    let was = leads c.0 l.0 (row_here rows c'.pid c.0 c.1) there in
-    (
+    let was = leads c.0 l.0 (row_here rows c'.pid c.0 c.1) there in (
       ap (λ x. x.session) l.2 ∙ was.0 ∙ sym same,
       ap (λ x. x.group) l.2 ∙ stays (is_pid p l.0) c.0 l.0 refl was.0 was.1 there ∙ ap (λ x. x.pid) (sym l.2),
     )
@@ -94,17 +89,17 @@ leading_leads rows r there free leads c' l' hc hl =
         cc
     go false false c l eb ea hc hl = leads c l hc hl
 
-form_leads : (rows : List Row) (r : Row) (now : List Row) → AreDistinct rows → row_of rows r.pid ≡ Some r → HaveLeaders rows → Form rows r now → HaveLeaders now
-form_leads rows r now distinct there leads (quiet keep f q e) = subst HaveLeaders (sym e) (quiet_leads rows keep f distinct q leads)
-form_leads rows r now distinct there leads (forked n unused e) = subst HaveLeaders (sym e) (forked_leads rows r n there unused leads)
-form_leads rows r now distinct there leads (regrouped p g t e) = subst HaveLeaders (sym e) (regrouped_leads rows r p g t leads)
-form_leads rows r now distinct there leads (leading free e) = subst HaveLeaders (sym e) (leading_leads rows r there free leads)
+form_leads : (rows : List Row) (r : Row) (entry : Entry) (now : List Row) → AreDistinct rows → row_of rows r.pid ≡ Some r → HaveLeaders rows → Form rows r entry now → HaveLeaders now
+form_leads rows r entry now distinct there leads (quiet keep f q stays e) = subst HaveLeaders (sym e) (quiet_leads rows keep f distinct q leads)
+form_leads rows r entry now distinct there leads (forked n is unused e) = subst HaveLeaders (sym e) (forked_leads rows r n there unused leads)
+form_leads rows r entry now distinct there leads (regrouped p g is t e) = subst HaveLeaders (sym e) (regrouped_leads rows r p g t leads)
+form_leads rows r entry now distinct there leads (leading free e) = subst HaveLeaders (sym e) (leading_leads rows r there free leads)
 
 pub step_leads : (rows : List Row) (entry : Entry) → IsSound rows → HaveLeaders rows → verdict rows entry ≡ Legal → HaveLeaders (after rows entry)
 step_leads rows entry sound leads e =
     let a = actor rows entry e in
     let here = row_here rows (process_of entry) a.row a.there in
-    subst HaveLeaders (sym (after_is rows entry a.row a.there)) (form_leads rows a.row _ sound.distinct here leads (step_form rows a.row entry here a.lives a.legal))
+    subst HaveLeaders (sym (after_is rows entry a.row a.there)) (form_leads rows a.row entry _ sound.distinct here leads (step_form rows a.row entry here a.lives a.legal))
 
 -- at first
 first_leads : (rows : List Row) → IsFirst rows → HaveLeaders rows
@@ -120,5 +115,4 @@ later_leads rows [] later sound leads legal = leads
 later_leads rows (entry ∷ before) later sound leads legal = later_leads (after rows entry) before later (step_keeps rows entry sound legal.0) (step_leads rows entry sound leads legal.0) legal.1
 
 pub sessions_led : SessionsAreLed
-sessions_led world before later own legal =
-    later_leads (boot world) before later (boot_sound world own) (first_leads (boot world) (booted_first [] world.starts empty_first own.differ own.allowed (all_free world.starts))) legal
+sessions_led world before later valid legal = later_leads (boot world) before later (boot_sound world valid) (first_leads (boot world) (boot_first world valid)) legal

@@ -1,11 +1,6 @@
 -- what a legal entry says
-use Rattle.std.proofs.Common.{◌≡◌, ◌==◌, ◌&&◌, ◌||◌, ℕ, ℤ, pos, negsuc, Bool, true, false, cond, not, List, refl, sym, ap, ◌∙◌, subst, Option, None, Some}
-use Rattle.std.specs.List.{list_any}
-use Rattle.std.specs.Prelude.{nat_le}
-use Rattle.std.proofs.lemmas.Bool.{and_parts}
-use Rattle.unix_names.specs.declared.Pid.{Pid}
+use Rattle.std.proofs.Common.{◌≡◌, ℕ, Bool, true, false, cond, not, List, refl, ap, Option, None, Some}
 use Rattle.unix_names.specs.declared.Errno.{Errno}
-use Rattle.unix_names.specs.declared.Errno.TheVariants.{EPERM, ESRCH, EACCES, EINVAL, ECHILD, EAGAIN}
 use Rattle.unix_names.specs.States.{is_living}
 use Rattle.unix_calls.specs.declared.Call.{Call}
 use Rattle.unix_calls.specs.declared.Reply.{Reply}
@@ -13,15 +8,13 @@ use Rattle.unix_calls.specs.declared.Reply.TheVariants.{Fine, Number}
 use Rattle.unix_calls.specs.declared.Event.{Event}
 use Rattle.unix_calls.specs.declared.Event.TheVariants.{Caught, Discarded, StoppedBy, EndedBy, Continued, Moved}
 use Rattle.unix_calls.specs.declared.Entry.{Entry}
-use Rattle.unix_calls.specs.declared.Entry.TheVariants.{Called, Happened}
 use Rattle.kernel_model.specs.declared.rows.Row.{Row}
 use Rattle.kernel_model.specs.declared.verdict.Rule.{Rule}
 use Rattle.kernel_model.specs.declared.verdict.Rule.TheVariants.{UnknownProcess, SignalFirst, WrongReply, WrongEvent}
 use Rattle.kernel_model.specs.declared.verdict.Verdict.{Verdict}
 use Rattle.kernel_model.specs.declared.verdict.Verdict.TheVariants.{Legal, Illegal}
 use Rattle.kernel_model.specs.Rows.{row_of}
-use Rattle.kernel_model.specs.Replies.{allows, is_first, is_refused_with, is_same_errno}
-use Rattle.kernel_model.specs.Refusals.{refusal}
+use Rattle.kernel_model.specs.Replies.{allows, is_first}
 use Rattle.kernel_model.specs.Events.{can_call, may_happen}
 use Rattle.kernel_model.specs.Step.{call_verdict, event_verdict, row_verdict, process_of, verdict_at, verdict, row_after, after_at, after}
 

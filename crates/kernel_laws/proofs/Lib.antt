@@ -7,8 +7,11 @@ pub mod Legal
 pub mod Groups
 pub mod Forks
 pub mod Steps
+pub mod Starts
 pub mod Boot
 pub mod Others
 pub mod Own
 pub mod Forms
 pub mod Leaders
+pub mod OrphanedGroups
+pub mod Coming

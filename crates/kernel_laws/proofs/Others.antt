@@ -1,8 +1,7 @@
 -- what a step leaves of the rows of other processes, and of the signals of its own
-use Rattle.std.proofs.Common.{◌≡◌, ◌==◌, ◌&&◌, ◌||◌, ◌%◌, ◌++◌, ℕ, ℤ, pos, negsuc, Bool, true, false, cond, not, List, [], ◌∷◌, refl, sym, ap, ◌∙◌, subst, Option, None, Some}
-use Rattle.std.specs.Prelude.{map, filter}
+use Rattle.std.proofs.Common.{◌≡◌, ◌==◌, ◌||◌, ◌%◌, ℕ, ℤ, pos, negsuc, Bool, true, false, cond, not, List, [], ◌∷◌, refl, sym, ap, ◌∙◌, subst, Option, None, Some}
+use Rattle.std.specs.Prelude.{map}
 use Rattle.std.specs.Option.{option_or}
-use Rattle.unix_names.specs.declared.Pid.{Pid}
 use Rattle.unix_names.specs.declared.Act.{Act}
 use Rattle.unix_names.specs.declared.Life.{Life}
 use Rattle.unix_names.specs.declared.Life.TheVariants.{Runs, Stopped, Ended}
@@ -14,28 +13,26 @@ use Rattle.unix_names.specs.States.{is_living}
 use Rattle.unix_calls.specs.declared.Call.{Call}
 use Rattle.unix_calls.specs.declared.Call.TheVariants.{Getpid, Getppid, Getpgid, Getsid, Fork, Exec, Exit, Waitpid, Kill, Setpgid, Setsid, Action, Mask, Pending, Migrate}
 use Rattle.unix_calls.specs.declared.Reply.{Reply}
-use Rattle.unix_calls.specs.declared.Reply.TheVariants.{Fine, Number, Set, Child, Again, Refused, NoReply}
+use Rattle.unix_calls.specs.declared.Reply.TheVariants.{Fine, Number, Child}
 use Rattle.unix_calls.specs.declared.Event.{Event}
 use Rattle.unix_calls.specs.declared.Event.TheVariants.{Caught, Discarded, StoppedBy, EndedBy, Continued, Moved}
 use Rattle.unix_calls.specs.declared.Entry.{Entry}
 use Rattle.unix_calls.specs.declared.Entry.TheVariants.{Called, Happened}
-use Rattle.unix_calls.specs.declared.Target.{Target}
 use Rattle.unix_calls.specs.Calls.{target_of}
 use Rattle.signal_state.specs.Signals.{Signals}
-use Rattle.signal_state.specs.Sig.{generated, generated_all, after_exec, with_action, with_mask, delivered, stopped_by, resumed}
+use Rattle.signal_state.specs.Sig.{generated_all, after_exec, with_action, with_mask, delivered, stopped_by, resumed}
 use Rattle.kernel_model.specs.declared.rows.Row.{Row}
-use Rattle.kernel_model.specs.declared.verdict.Verdict.TheVariants.{Legal}
-use Rattle.kernel_model.specs.Rows.{pid, is_pid, is_parent, row_of}
-use Rattle.kernel_model.specs.Refusals.{is_permitted, target_pid, wanted_group}
-use Rattle.kernel_model.specs.Sent.{receives, sent_nothing, sent_to_parent, sent_by_kill}
+use Rattle.kernel_model.specs.Rows.{pid, is_pid, row_of}
+use Rattle.kernel_model.specs.Refusals.{target_pid, wanted_group}
+use Rattle.kernel_model.specs.Sent.{receives, sent_to_parent, sent_by_kill}
 use Rattle.kernel_model.specs.Ending.{sent_by_end}
-use Rattle.kernel_model.specs.Events.{delivered_at, stopped_at, continued_at, after_event}
-use Rattle.kernel_model.specs.Step.{process_of, verdict, newborn, execed_at, is_ended_at, reported_at, regrouped_at, leading_at, acting_at, masked_at, after_fork, after_wait, after_kill, after_setpgid, after_setsid, after_action, after_call, row_after, after_at, after, sent_by_call, sent_by_event, sent_by_row, sent_at, sent, sent_by_kill_call}
-use Rattle.kernel_model.specs.Sound.{AreDistinct, IsSound}
-use Rattle.list_laws.proofs.Filters.{some_same, map_same, map-map}
-use Rattle.list_laws.proofs.Finding.{at-append, same_number}
-use Rattle.kernel_laws.specs.Effects.{is_end, is_report_of, is_regrouping_of, IsSignalled, OthersAreSignalled, acted, own_signals, OwnSignals, killed_once, KillSignalsOnce}
-use Rattle.kernel_laws.proofs.Rows.{number, row_pid, row_here, mapped_is, moved_is}
+use Rattle.kernel_model.specs.Events.{stopped_at, continued_at, after_event}
+use Rattle.kernel_model.specs.Step.{process_of, newborn, execed_at, is_ended_at, reported_at, regrouped_at, leading_at, after_fork, after_wait, after_kill, after_setpgid, after_setsid, after_action, after_call, row_after, sent_by_call, sent_by_event, sent_by_row, sent_at, sent_by_kill_call}
+use Rattle.kernel_model.specs.Sound.{AreDistinct}
+use Rattle.list_laws.proofs.Filters.{some_same, map-map}
+use Rattle.list_laws.proofs.Finding.{at-append}
+use Rattle.kernel_laws.specs.Effects.{is_end, is_report_of, is_regrouping_of, IsSignalled, OthersAreSignalled}
+use Rattle.kernel_laws.proofs.Rows.{number, row_pid, mapped_is, moved_is}
 use Rattle.kernel_laws.proofs.Changes.{signals_at}
 use Rattle.kernel_laws.proofs.Ends.{after_end_of, ended_is}
 use Rattle.kernel_laws.proofs.Legal.{actor, after_is}
@@ -62,9 +59,9 @@ sent_second false x y l m ss e = refl
 plain : (signals : List Signal) (entry : Entry) (c x : Row) → is_end entry ≡ false → is_report_of c.pid entry ≡ false →
     x.sig ≡ generated_all c.sig (cond (is_living c.life) signals []) → x.pid ≡ c.pid → x.session ≡ c.session → x.uid ≡ c.uid → x.life ≡ c.life → x.execed ≡ c.execed → x.parent ≡ c.parent → x.change ≡ c.change →
     (is_regrouping_of c.pid entry ≡ false → x.group ≡ c.group) → IsSignalled signals entry c x
-plain signals entry c x no_end no_report sig pid_ session uid life execed parent change group = record {
+plain signals entry c x no_end no_report sig named session uid life execed parent change group = record {
   sig = sig;
-  pid = pid_;
+  pid = named;
   session = session;
   uid = uid;
   life = life;
@@ -105,30 +102,30 @@ module _ (rows : List Row) (r : Row) (distinct : AreDistinct rows) (c c' : Row) 
   forked_other : (reply : Reply) → row_of (after_fork rows r reply) c.pid ≡ Some c' → IsSignalled [] (Called r.pid Fork reply) c c'
   forked_other (Number n) e =
       subst (IsSignalled [] (Called r.pid Fork (Number n)) c)
-        (some_same c c' (sym (at-append number c.pid.0 rows (newborn r n ∷ []) ∙ ap (λ o. option_or o (row_of (newborn r n ∷ []) c.pid)) here) ∙ e))
-        (same (Called r.pid Fork (Number n)) c refl refl)
+      (some_same c c' (sym (at-append number c.pid.0 rows (newborn r n ∷ []) ∙ ap (λ o. option_or o (row_of (newborn r n ∷ []) c.pid)) here) ∙ e))
+      (same (Called r.pid Fork (Number n)) c refl refl)
   forked_other _ e = same_row rows (Called r.pid Fork _) c c' refl refl here e
 
   execed_other : (reply : Reply) → row_of (map (execed_at r.pid) rows) c.pid ≡ Some c' → IsSignalled [] (Called r.pid Exec reply) c c'
   execed_other reply e = subst (IsSignalled [] (Called r.pid Exec reply) c) (sym (mapped_is rows (execed_at r.pid) (λ x. refl) c.pid c c' here e))
       (plain [] (Called r.pid Exec reply) c (execed_at r.pid c) refl refl
-        (second (is_pid r.pid c) (after_exec c.sig) c.sig other ∙ sym (nothing_sent (is_living c.life) c.sig)) refl refl refl refl (ap (λ b. b || c.execed) other) refl refl (λ g. refl))
+      (second (is_pid r.pid c) (after_exec c.sig) c.sig other ∙ sym (nothing_sent (is_living c.life) c.sig)) refl refl refl refl (ap (λ b. b || c.execed) other) refl refl (λ g. refl))
 
   waited_other : (sel : ℤ) (stopped continued : Bool) (reply : Reply) → row_of (after_wait rows reply) c.pid ≡ Some c' → IsSignalled [] (Called r.pid (Waitpid sel stopped continued) reply) c c'
   waited_other sel stopped continued (Child p w) e =
       subst (IsSignalled [] (Called r.pid (Waitpid sel stopped continued) (Child p w)) c)
-        (sym (moved_is rows (λ x. not (is_ended_at p x)) (reported_at p) (λ x. refl) distinct c.pid c c' here e))
-        (record {
-          sig = sym (nothing_sent (is_living c.life) c.sig);
-          pid = refl;
-          session = refl;
-          uid = refl;
-          life = refl;
-          execed = refl;
-          parent = refl;
-          change = refl;
-          group = λ g. refl;
-        })
+      (sym (moved_is rows (λ x. not (is_ended_at p x)) (reported_at p) (λ x. refl) distinct c.pid c c' here e))
+      (record {
+        sig = sym (nothing_sent (is_living c.life) c.sig);
+        pid = refl;
+        session = refl;
+        uid = refl;
+        life = refl;
+        execed = refl;
+        parent = refl;
+        change = refl;
+        group = λ g. refl;
+      })
   waited_other sel stopped continued _ e = same_row rows (Called r.pid (Waitpid sel stopped continued) _) c c' refl refl here e
 
   killed_other : (target : ℤ) (s : ℕ) (reply : Reply) → row_of (after_kill rows r (target_of target) s reply) c.pid ≡ Some c' →
@@ -136,7 +133,7 @@ module _ (rows : List Row) (r : Row) (distinct : AreDistinct rows) (c c' : Row) 
   killed_other target s Fine e =
       let send = sent_by_kill r (target_of target) s (signal_of s) in
       subst (IsSignalled (send c) (Called r.pid (Kill target s) Fine) c) (sym (mapped_is rows (receives send) (λ x. refl) c.pid c c' here e))
-        (plain (send c) (Called r.pid (Kill target s) Fine) c (receives send c) refl refl refl refl refl refl refl refl refl refl (λ g. refl))
+      (plain (send c) (Called r.pid (Kill target s) Fine) c (receives send c) refl refl refl refl refl refl refl refl refl refl (λ g. refl))
   killed_other target s _ e = same_row rows (Called r.pid (Kill target s) _) c c' refl refl here e
 
   not_target : (t : ℕ) → (c.pid.0 == t) ≡ false → is_pid (target_pid r t) c ≡ false
@@ -151,15 +148,15 @@ module _ (rows : List Row) (r : Row) (distinct : AreDistinct rows) (c c' : Row) 
   regrouped_other t (pos q) Fine e =
       let change = regrouped_at (target_pid r t) (wanted_group r t q) in
       subst (IsSignalled [] (Called r.pid (Setpgid t (pos q)) Fine) c) (sym (mapped_is rows change (λ x. refl) c.pid c c' here e))
-        (plain [] (Called r.pid (Setpgid t (pos q)) Fine) c (change c) refl refl (sym (nothing_sent (is_living c.life) c.sig)) refl refl refl refl refl refl refl
-          (λ g. second (is_pid (target_pid r t) c) (wanted_group r t q) c.group (not_target t g)))
+      (plain [] (Called r.pid (Setpgid t (pos q)) Fine) c (change c) refl refl (sym (nothing_sent (is_living c.life) c.sig)) refl refl refl refl refl refl refl
+      (λ g. second (is_pid (target_pid r t) c) (wanted_group r t q) c.group (not_target t g)))
   regrouped_other t (pos q) _ e = same_row rows (Called r.pid (Setpgid t (pos q)) _) c c' refl refl here e
 
   leading_other : (reply : Reply) → row_of (after_setsid rows r reply) c.pid ≡ Some c' → IsSignalled [] (Called r.pid Setsid reply) c c'
   leading_other (Number n) e =
       subst (IsSignalled [] (Called r.pid Setsid (Number n)) c) (sym (mapped_is rows (leading_at r.pid) (λ x. refl) c.pid c c' here e))
-        (plain [] (Called r.pid Setsid (Number n)) c (leading_at r.pid c) refl refl (sym (nothing_sent (is_living c.life) c.sig)) refl
-          (second (is_pid r.pid c) r.pid c.session other) refl refl refl refl refl (λ g. second (is_pid r.pid c) r.pid c.group other))
+      (plain [] (Called r.pid Setsid (Number n)) c (leading_at r.pid c) refl refl (sym (nothing_sent (is_living c.life) c.sig)) refl
+      (second (is_pid r.pid c) r.pid c.session other) refl refl refl refl refl (λ g. second (is_pid r.pid c) r.pid c.group other))
   leading_other _ e = same_row rows (Called r.pid Setsid _) c c' refl refl here e
 
   -- a change of the signals of the caller alone
@@ -168,7 +165,7 @@ module _ (rows : List Row) (r : Row) (distinct : AreDistinct rows) (c c' : Row) 
   signals_other entry g no_end no_report e =
       let change = signals_at r.pid g in
       subst (IsSignalled [] entry c) (sym (mapped_is rows change (λ x. refl) c.pid c c' here e))
-        (plain [] entry c (change c) no_end no_report (second (is_pid r.pid c) (g c.sig) c.sig other ∙ sym (nothing_sent (is_living c.life) c.sig)) refl refl refl refl refl refl refl (λ g. refl))
+      (plain [] entry c (change c) no_end no_report (second (is_pid r.pid c) (g c.sig) c.sig other ∙ sym (nothing_sent (is_living c.life) c.sig)) refl refl refl refl refl refl refl (λ g. refl))
 
   acting_other : (s : ℕ) (o : Option Signal) (act : Act) (reply : Reply) → row_of (after_action rows r o act reply) c.pid ≡ Some c' → IsSignalled [] (Called r.pid (Action s act) reply) c c'
   acting_other s None act reply e = same_row rows (Called r.pid (Action s act) reply) c c' refl refl here e
@@ -180,7 +177,7 @@ module _ (rows : List Row) (r : Row) (distinct : AreDistinct rows) (c c' : Row) 
   call_other Exec reply e = execed_other reply e
   call_other (Exit n) reply e =
       subst (IsSignalled (sent_by_end rows r (status.Exited (n % 256)) c) (Called r.pid (Exit n) reply) c) (sym (ended_is rows r (status.Exited (n % 256)) distinct c.pid c c' here e))
-        (ended_signalled rows r (status.Exited (n % 256)) (Called r.pid (Exit n) reply) c refl refl refl other)
+      (ended_signalled rows r (status.Exited (n % 256)) (Called r.pid (Exit n) reply) c refl refl refl other)
   call_other (Waitpid sel stopped continued) reply e = waited_other sel stopped continued reply e
   call_other (Kill target s) reply e = killed_other target s reply e
   call_other (Setpgid t q) reply e = regrouped_other t q reply e
@@ -201,18 +198,18 @@ module _ (rows : List Row) (r : Row) (distinct : AreDistinct rows) (c c' : Row) 
   event_other (StoppedBy s) e =
       let d = came_received_at rows c c' here (sent_to_parent r) (stopped_at r.pid s) (λ x. refl) e in
       subst (IsSignalled (sent_to_parent r c) (Happened r.pid (StoppedBy s)) c) (sym d)
-        (plain (sent_to_parent r c) (Happened r.pid (StoppedBy s)) c (receives (sent_to_parent r) (stopped_at r.pid s c)) refl refl
-          (sent_second (is_pid r.pid c) (stopped_by c.sig s) c.sig Stopped c.life (sent_to_parent r c) other) refl refl refl (second (is_pid r.pid c) Stopped c.life other) refl refl
-          (second (is_pid r.pid c) (Some (status.Stopped s)) c.change other) (λ g. refl))
+      (plain (sent_to_parent r c) (Happened r.pid (StoppedBy s)) c (receives (sent_to_parent r) (stopped_at r.pid s c)) refl refl
+      (sent_second (is_pid r.pid c) (stopped_by c.sig s) c.sig Stopped c.life (sent_to_parent r c) other) refl refl refl (second (is_pid r.pid c) Stopped c.life other) refl refl
+      (second (is_pid r.pid c) (Some (status.Stopped s)) c.change other) (λ g. refl))
   event_other (EndedBy s) e =
       subst (IsSignalled (sent_by_end rows r (status.Killed s) c) (Happened r.pid (EndedBy s)) c) (sym (ended_is rows r (status.Killed s) distinct c.pid c c' here e))
-        (ended_signalled rows r (status.Killed s) (Happened r.pid (EndedBy s)) c refl refl refl other)
+      (ended_signalled rows r (status.Killed s) (Happened r.pid (EndedBy s)) c refl refl refl other)
   event_other Continued e =
       let d = came_received_at rows c c' here (sent_to_parent r) (continued_at r.pid) (λ x. refl) e in
       subst (IsSignalled (sent_to_parent r c) (Happened r.pid Continued) c) (sym d)
-        (plain (sent_to_parent r c) (Happened r.pid Continued) c (receives (sent_to_parent r) (continued_at r.pid c)) refl refl
-          (sent_second (is_pid r.pid c) (resumed c.sig) c.sig Runs c.life (sent_to_parent r c) other) refl refl refl (second (is_pid r.pid c) Runs c.life other) refl refl
-          (second (is_pid r.pid c) (Some status.Continued) c.change other) (λ g. refl))
+      (plain (sent_to_parent r c) (Happened r.pid Continued) c (receives (sent_to_parent r) (continued_at r.pid c)) refl refl
+      (sent_second (is_pid r.pid c) (resumed c.sig) c.sig Runs c.life (sent_to_parent r c) other) refl refl refl (second (is_pid r.pid c) Runs c.life other) refl refl
+      (second (is_pid r.pid c) (Some status.Continued) c.change other) (λ g. refl))
   event_other Moved e = same_row rows (Happened r.pid Moved) c c' refl refl here e
 
   row_other : (entry : Entry) → process_of entry ≡ r.pid → row_of (row_after rows r entry) c.pid ≡ Some c' → IsSignalled (sent_by_row rows r entry c) entry c c'
@@ -224,4 +221,4 @@ others_signalled rows entry sound legal before now here other e =
     let a = actor rows entry legal in
     let is : a.row.pid ≡ process_of entry = row_pid rows (process_of entry) a.row a.there in
     subst (λ signals. IsSignalled signals entry before now) (ap (λ o. sent_at rows o entry before) (sym a.there))
-      (row_other rows a.row sound.distinct before now here (ap (λ p. is_pid p before) is ∙ other) entry (sym is) (ap (λ t. row_of t before.pid) (sym (after_is rows entry a.row a.there)) ∙ e))
+    (row_other rows a.row sound.distinct before now here (ap (λ p. is_pid p before) is ∙ other) entry (sym is) (ap (λ t. row_of t before.pid) (sym (after_is rows entry a.row a.there)) ∙ e))

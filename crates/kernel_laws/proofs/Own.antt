@@ -1,11 +1,9 @@
 -- what a step does to the signals of its own process; a kill; a fork
-use Rattle.std.proofs.Common.{◌≡◌, ◌≢◌, ◌==◌, ◌&&◌, ◌||◌, ◌%◌, ◌≤◌, ◌++◌, ℕ, ℤ, pos, negsuc, Bool, true, false, cond, not, List, [], ◌∷◌, refl, sym, ap, ◌∙◌, subst, Option, None, Some}
-use Rattle.std.specs.Prelude.{map, filter}
+use Rattle.std.proofs.Common.{◌≡◌, ◌&&◌, ◌%◌, ℕ, ℤ, pos, negsuc, Bool, true, false, cond, not, List, [], ◌∷◌, refl, sym, ap, ◌∙◌, subst, Option, None, Some}
+use Rattle.std.specs.Prelude.{map}
 use Rattle.std.specs.Option.{option_or}
 use Rattle.unix_names.specs.declared.Pid.{Pid}
 use Rattle.unix_names.specs.declared.Act.{Act}
-use Rattle.unix_names.specs.declared.Life.{Life}
-use Rattle.unix_names.specs.declared.Life.TheVariants.{Runs, Stopped, Ended}
 use Rattle.unix_names.specs.declared.WaitStatus.{WaitStatus}
 use Rattle.unix_names.specs.declared.WaitStatus.TheVariants as status
 use Rattle.unix_names.specs.declared.Signal.{Signal}
@@ -14,7 +12,7 @@ use Rattle.unix_names.specs.States.{is_living}
 use Rattle.unix_calls.specs.declared.Call.{Call}
 use Rattle.unix_calls.specs.declared.Call.TheVariants.{Getpid, Getppid, Getpgid, Getsid, Fork, Exec, Exit, Waitpid, Kill, Setpgid, Setsid, Action, Mask, Pending, Migrate}
 use Rattle.unix_calls.specs.declared.Reply.{Reply}
-use Rattle.unix_calls.specs.declared.Reply.TheVariants.{Fine, Number, Set, Child, Again, Refused, NoReply}
+use Rattle.unix_calls.specs.declared.Reply.TheVariants.{Fine, Number, Child}
 use Rattle.unix_calls.specs.declared.Event.{Event}
 use Rattle.unix_calls.specs.declared.Event.TheVariants.{Caught, Discarded, StoppedBy, EndedBy, Continued, Moved}
 use Rattle.unix_calls.specs.declared.Entry.{Entry}
@@ -24,24 +22,23 @@ use Rattle.unix_calls.specs.Calls.{target_of}
 use Rattle.signal_state.specs.Signals.{Signals}
 use Rattle.signal_state.specs.Sig.{generated, generated_all, after_exec, with_action, with_mask, delivered, stopped_by, resumed}
 use Rattle.kernel_model.specs.declared.rows.Row.{Row}
-use Rattle.kernel_model.specs.declared.verdict.Verdict.TheVariants.{Legal}
-use Rattle.kernel_model.specs.Rows.{pid, is_pid, is_parent, row_of}
+use Rattle.kernel_model.specs.Rows.{is_pid, row_of}
 use Rattle.kernel_model.specs.Refusals.{is_permitted, target_pid, wanted_group, fork_refusal}
 use Rattle.kernel_model.specs.Replies.{is_fresh}
-use Rattle.kernel_model.specs.Sent.{receives, received, sent_nothing, sent_to_parent, sent_by_kill}
+use Rattle.kernel_model.specs.Sent.{receives, received, sent_to_parent, sent_by_kill}
 use Rattle.kernel_model.specs.Ending.{sent_by_end, after_end}
-use Rattle.kernel_model.specs.Events.{delivered_at, stopped_at, continued_at, after_event}
-use Rattle.kernel_model.specs.Step.{process_of, verdict, newborn, execed_at, is_ended_at, reported_at, regrouped_at, leading_at, acting_at, masked_at, after_fork, after_wait, after_kill, after_setpgid, after_setsid, after_action, after_call, row_after, after_at, after, sent_by_call, sent_by_event, sent_by_row, sent_at, sent, sent_by_kill_call}
-use Rattle.kernel_model.specs.Sound.{AreDistinct, IsSound}
+use Rattle.kernel_model.specs.Events.{stopped_at, continued_at, after_event}
+use Rattle.kernel_model.specs.Step.{process_of, newborn, execed_at, is_ended_at, reported_at, regrouped_at, leading_at, after_fork, after_wait, after_kill, after_setpgid, after_setsid, after_action, after_call, row_after, sent_by_call, sent_by_event, sent_by_row, sent_at, sent_by_kill_call}
+use Rattle.kernel_model.specs.Sound.{AreDistinct}
 use Rattle.list_laws.proofs.Filters.{some_same, map_same}
 use Rattle.list_laws.proofs.Finding.{at-append, same_number}
-use Rattle.kernel_laws.specs.Effects.{acted, own_signals, OwnSignals, killed_once, KillSignalsOnce, IsChildOf, IsUnused, ForkIsFresh}
+use Rattle.kernel_laws.specs.Effects.{acted, own_signals, OwnSignals, killed_once, KillSignalsOnce, ForkIsFresh}
 use Rattle.kernel_laws.proofs.Rows.{number, row_pid, row_here, mapped_is, moved_is}
 use Rattle.kernel_laws.proofs.Changes.{signals_at}
-use Rattle.kernel_laws.proofs.Ends.{after_end_of, ended_is}
+use Rattle.kernel_laws.proofs.Ends.{ended_is}
 use Rattle.kernel_laws.proofs.Forks.{fresh_number}
 use Rattle.kernel_laws.proofs.Legal.{actor, after_is, call_allowed, unrefused_number}
-use Rattle.kernel_laws.proofs.Others.{nothing_sent, second, first, came_received_at}
+use Rattle.kernel_laws.proofs.Others.{nothing_sent, first, came_received_at}
 
 -- the signals after are those that the change leaves, and those that are sent
 abbrev pub HasOwn : List Signal → Signals → Row → Type 0
@@ -117,11 +114,11 @@ module _ (rows : List Row) (r : Row) (distinct : AreDistinct rows) (r' : Row) (h
   event_own p (Discarded s) e = changed (λ x. delivered x s) e
   event_own p (StoppedBy s) e =
       subst (HasOwn (sent_to_parent r r) (stopped_by r.sig s)) (sym (came_received_at rows r r' here (sent_to_parent r) (stopped_at r.pid s) (λ x. refl) e))
-        (ap (λ x. generated_all x (cond (is_living (stopped_at r.pid s r).life) (sent_to_parent r r) [])) (first (is_pid r.pid r) (stopped_by r.sig s) r.sig (same_number r.pid.0)))
+      (ap (λ x. generated_all x (cond (is_living (stopped_at r.pid s r).life) (sent_to_parent r r) [])) (first (is_pid r.pid r) (stopped_by r.sig s) r.sig (same_number r.pid.0)))
   event_own p (EndedBy s) e = ended_own (status.Killed s) e
   event_own p Continued e =
       subst (HasOwn (sent_to_parent r r) (resumed r.sig)) (sym (came_received_at rows r r' here (sent_to_parent r) (continued_at r.pid) (λ x. refl) e))
-        (ap (λ x. generated_all x (cond (is_living (continued_at r.pid r).life) (sent_to_parent r r) [])) (first (is_pid r.pid r) (resumed r.sig) r.sig (same_number r.pid.0)))
+      (ap (λ x. generated_all x (cond (is_living (continued_at r.pid r).life) (sent_to_parent r r) [])) (first (is_pid r.pid r) (resumed r.sig) r.sig (same_number r.pid.0)))
   event_own p Moved e = unchanged e
 
   row_own : (entry : Entry) → row_of (row_after rows r entry) r.pid ≡ Some r' → HasOwn (sent_by_row rows r entry r) (own_signals entry r.sig) r'
@@ -132,7 +129,7 @@ pub own_signalled : OwnSignals
 own_signalled rows entry sound legal before now there e =
     let is : before.pid ≡ process_of entry = row_pid rows (process_of entry) before there in
     let step = row_own rows before sound.distinct now (row_here rows (process_of entry) before there) entry
-        (ap (λ p. row_of (row_after rows before entry) p) is ∙ ap (λ t. row_of t (process_of entry)) (sym (after_is rows entry before there)) ∙ e) in
+    (ap (λ p. row_of (row_after rows before entry) p) is ∙ ap (λ t. row_of t (process_of entry)) (sym (after_is rows entry before there)) ∙ e) in
     subst (λ signals. HasOwn signals (own_signals entry before.sig) now) (ap (λ o. sent_at rows o entry before) (sym there)) step
 
 -- ---- kill
@@ -146,13 +143,18 @@ kill_once rows p caller target s signal there is =
     after_is rows (Called p (Kill target s) Fine) caller there
     ∙ ap (λ o. received (sent_by_kill caller (target_of target) s o) rows) is
     ∙ map_same (receives (sent_by_kill caller (target_of target) s (Some signal))) (killed_once caller (target_of target) s signal)
-        (λ c. killed_row (is_living c.life) (is_permitted caller (target_of target) s c) signal c) rows
+    (λ c. killed_row (is_living c.life) (is_permitted caller (target_of target) s c) signal c) rows
 
 -- ---- fork
 pub fork_fresh : ForkIsFresh
 fork_fresh rows p caller n there legal =
     let a = actor rows (Called p Fork (Number n)) legal in
     let allowed = unrefused_number (fork_refusal rows a.row) n (is_fresh rows n) ((call_allowed rows a.row Fork (Number n) a.legal).1) in
-    let fresh = fresh_number rows n allowed.1 in
-    (fresh, (newborn caller n, after_is rows (Called p Fork (Number n)) caller there,
-      record { pid = refl; parent = refl; group = refl; session = refl; uid = refl; lives = refl; nothing_pending = refl }))
+    let fresh = fresh_number rows n allowed.1 in (
+      fresh,
+      (
+        newborn caller n,
+        after_is rows (Called p Fork (Number n)) caller there,
+        record { pid = refl; parent = refl; group = refl; session = refl; uid = refl; lives = refl; nothing_pending = refl },
+      ),
+    )

@@ -1,5 +1,5 @@
 -- a step that leaves groups and sessions as they are, and gives no process to a new parent but to the system process, keeps a table sound
-use Rattle.std.proofs.Common.{◌≡◌, ◌≢◌, ◌==◌, ◌&&◌, ◌≤◌, ◌⊎◌, inl, inr, ℕ, Bool, true, false, cond, List, [], ◌∷◌, length, refl, sym, ap, ◌∙◌, subst, arith, Option, None, Some}
+use Rattle.std.proofs.Common.{◌≡◌, ◌≢◌, ◌==◌, ◌&&◌, ◌≤◌, ◌⊎◌, inl, inr, Bool, true, false, List, length, refl, sym, ap, ◌∙◌, subst, arith, Option, None, Some}
 use Rattle.std.specs.Prelude.{map, filter}
 use Rattle.std.specs.Option.{option_map}
 use Rattle.std.proofs.lemmas.Bool.{eqb-true, and_parts}
@@ -7,13 +7,13 @@ use Rattle.unix_names.specs.declared.Pid.{Pid}
 use Rattle.unix_names.specs.States.{is_living}
 use Rattle.signal_state.specs.Signals.{IsKept}
 use Rattle.kernel_model.specs.declared.rows.Row.{Row}
-use Rattle.kernel_model.specs.Rows.{is_pid, is_parent, is_stopped, row_of, child_count}
-use Rattle.kernel_model.specs.Sound.{AreDistinct, IsAlive, IsSoundRow, IsSound}
-use Rattle.list_laws.specs.Keyed.{Distinct, Each, option_filter}
+use Rattle.kernel_model.specs.Rows.{is_parent, is_stopped, row_of, child_count}
+use Rattle.kernel_model.specs.Sound.{IsAlive, IsSoundRow, IsSound}
+use Rattle.list_laws.specs.Keyed.{option_filter}
 use Rattle.list_laws.proofs.Filters.{filter-filter, filter-all, length-filter-map}
 use Rattle.list_laws.proofs.Finding.{distinct-map, distinct-filter}
 use Rattle.list_laws.proofs.Counts.{count_at_most}
-use Rattle.kernel_laws.proofs.Rows.{number, distinct_from, distinct_to, row_here, row_moved, Comes, comes}
+use Rattle.kernel_laws.proofs.Rows.{number, distinct_from, distinct_to, row_here, row_moved, comes}
 
 -- the parent stays, and where it lives it stays and lives on
 pub record KeepsParent (rows : List Row) (keep : Row → Bool) (f : Row → Row) (c : Row) : Type 0 where
@@ -91,7 +91,7 @@ module _ (rows : List Row) (keep : Row → Bool) (f : Row → Row) (sound : IsSo
   few_now : (p : Pid) → p.0 ≢ 1 → child_count now p ≤ 64
   few_now p n =
       let count : child_count now p ≡ length (filter (λ c. keep c && is_parent p (f c)) rows) =
-          length-filter-map (is_parent p) f (filter keep rows) ∙ ap length (filter-filter (λ c. is_parent p (f c)) keep rows) in
+      length-filter-map (is_parent p) f (filter keep rows) ∙ ap length (filter-filter (λ c. is_parent p (f c)) keep rows) in
       let most = count_at_most number (λ c. keep c && is_parent p (f c)) (is_parent p) rows (distinct_from rows sound.distinct) (was_parent p n) in
       let few = sound.few_children p n in
       omega (arith, count, most, few)

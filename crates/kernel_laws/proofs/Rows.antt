@@ -1,8 +1,8 @@
 -- rows by their pids
-use Rattle.std.proofs.Common.{◌≡◌, ◌==◌, ◌&&◌, ℕ, Bool, true, false, cond, List, [], ◌∷◌, refl, sym, ap, ◌∙◌, subst, Option, None, Some}
+use Rattle.std.proofs.Common.{◌≡◌, ℕ, Bool, true, List, [], ◌∷◌, sym, ap, ◌∙◌, Some}
 use Rattle.std.specs.Prelude.{map, filter}
 use Rattle.std.specs.Option.{option_map}
-use Rattle.std.proofs.lemmas.Bool.{eqb-true, eq-eqb}
+use Rattle.std.proofs.lemmas.Bool.{eqb-true}
 use Rattle.unix_names.specs.declared.Pid.{Pid}
 use Rattle.kernel_model.specs.declared.rows.Row.{Row}
 use Rattle.kernel_model.specs.Rows.{is_pid, row_of}

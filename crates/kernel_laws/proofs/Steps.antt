@@ -1,21 +1,20 @@
 -- each step keeps a table sound
-use Rattle.std.proofs.Common.{◌≡◌, ◌≢◌, ◌==◌, ◌&&◌, ◌||◌, ◌<◌, ◌⊎◌, inl, inr, ◌%◌, ℕ, ℤ, pos, negsuc, Bool, true, false, cond, not, List, refl, sym, ap, ◌∙◌, subst, Option, None, Some}
+use Rattle.std.proofs.Common.{◌≡◌, ◌==◌, ◌&&◌, ◌||◌, ◌<◌, ◌⊎◌, inl, inr, ◌%◌, ℕ, ℤ, pos, negsuc, Bool, true, false, cond, not, List, refl, sym, ap, ◌∙◌, subst, Option, None, Some}
 use Rattle.std.specs.Prelude.{nat_le, map}
 use Rattle.std.specs.List.{list_any}
-use Rattle.std.proofs.lemmas.Bool.{eqb-true, and_parts, or_parts, leb-false}
+use Rattle.std.proofs.lemmas.Bool.{eqb-true, or_parts, leb-false}
 use Rattle.unix_names.specs.declared.Pid.{Pid}
 use Rattle.unix_names.specs.declared.Act.{Act}
-use Rattle.unix_names.specs.declared.Errno.{Errno}
-use Rattle.unix_names.specs.declared.Errno.TheVariants.{EPERM, ESRCH, EACCES, EINVAL, EAGAIN}
+use Rattle.unix_names.specs.declared.Errno.TheVariants.{EPERM, ESRCH, EACCES, EAGAIN}
 use Rattle.unix_names.specs.declared.WaitStatus.TheVariants as status
 use Rattle.unix_names.specs.declared.Signal.{Signal}
 use Rattle.unix_names.specs.declared.Signal.TheVariants.{Kill as KillSignal, Stop as StopSignal}
 use Rattle.unix_names.specs.Signals.{signal_of}
 use Rattle.unix_names.specs.States.{is_living}
 use Rattle.unix_calls.specs.declared.Call.{Call}
-use Rattle.unix_calls.specs.declared.Call.TheVariants.{Getpid, Getppid, Getpgid, Getsid, Fork, Exec, Exit, Waitpid, Kill, Setpgid, Setsid, Action, Mask, Pending, Migrate}
+use Rattle.unix_calls.specs.declared.Call.TheVariants.{Fork, Exec, Exit, Waitpid, Kill, Setpgid, Setsid, Action, Mask}
 use Rattle.unix_calls.specs.declared.Reply.{Reply}
-use Rattle.unix_calls.specs.declared.Reply.TheVariants.{Fine, Number, Set, Child, Again, Refused, NoReply}
+use Rattle.unix_calls.specs.declared.Reply.TheVariants.{Fine, Number, Child}
 use Rattle.unix_calls.specs.declared.Event.{Event}
 use Rattle.unix_calls.specs.declared.Event.TheVariants.{Caught, Discarded, StoppedBy, EndedBy, Continued, Moved}
 use Rattle.unix_calls.specs.declared.Entry.{Entry}
@@ -24,21 +23,20 @@ use Rattle.unix_calls.specs.declared.Target.{Target}
 use Rattle.unix_calls.specs.Calls.{target_of}
 use Rattle.kernel_model.specs.declared.rows.Row.{Row}
 use Rattle.kernel_model.specs.declared.verdict.Verdict.TheVariants.{Legal}
-use Rattle.kernel_model.specs.Rows.{pid, is_same, is_pid, is_parent, in_group, in_session, is_session_leader, row_of, row_named, child_count}
-use Rattle.kernel_model.specs.Refusals.{target_pid, wanted_group, is_own, is_execed_child, is_in_session_group, is_fixed_in_group, regroup_refusal, setpgid_refusal, setsid_refusal, fork_refusal, action_refusal}
-use Rattle.kernel_model.specs.Replies.{is_fresh, allows, is_fresh_number}
+use Rattle.kernel_model.specs.Rows.{pid, is_same, in_group, in_session, is_session_leader, row_of, row_named, child_count}
+use Rattle.kernel_model.specs.Refusals.{target_pid, wanted_group, is_own, is_execed_child, is_in_session_group, is_fixed_in_group, regroup_refusal, setsid_refusal, fork_refusal, action_refusal}
+use Rattle.kernel_model.specs.Replies.{is_fresh, allows}
 use Rattle.kernel_model.specs.Sent.{sent_to_parent, sent_by_kill}
-use Rattle.kernel_model.specs.Ending.{after_end}
 use Rattle.kernel_model.specs.Events.{stopped_at, continued_at, after_event}
-use Rattle.kernel_model.specs.Step.{after_fork, after_wait, after_kill, regrouped_at, after_setpgid, after_setsid, after_action, after_call, row_after, row_verdict, verdict, after}
+use Rattle.kernel_model.specs.Step.{after_fork, after_wait, after_kill, regrouped_at, after_setpgid, after_setsid, after_action, after_call, row_after, row_verdict}
 use Rattle.kernel_model.specs.Sound.{IsSound}
 use Rattle.kernel_laws.specs.Tables.{StepKeepsSound}
-use Rattle.kernel_laws.proofs.Rows.{pid_same, row_pid, row_here}
+use Rattle.kernel_laws.proofs.Rows.{row_pid, row_here}
 use Rattle.kernel_laws.proofs.Changes.{received_sound, masked_sound, acting_sound, delivered_sound, execed_sound, stopped_sound, continued_sound, reported_sound}
 use Rattle.kernel_laws.proofs.Ends.{end_sound}
 use Rattle.kernel_laws.proofs.Forks.{fresh_number, fork_sound}
 use Rattle.kernel_laws.proofs.Groups.{leading_sound, regrouped_sound}
-use Rattle.kernel_laws.proofs.Legal.{not_true, not_false, actor, after_is, call_allowed, unrefused_fine, unrefused_number, no_refusal, none_passes}
+use Rattle.kernel_laws.proofs.Legal.{not_false, actor, after_is, call_allowed, unrefused_fine, unrefused_number, no_refusal}
 
 -- ---- fork
 fork_keeps : (rows : List Row) (r : Row) (reply : Reply) → IsSound rows → row_of rows r.pid ≡ Some r → is_living r.life ≡ true → allows rows r Fork reply ≡ true → IsSound (after_fork rows r reply)

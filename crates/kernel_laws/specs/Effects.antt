@@ -1,5 +1,5 @@
 -- what a step does to the rows of its table
-use Rattle.std.specs.Prelude.{ℕ, ℤ, pos, negsuc, Bool, true, false, ◌≡◌, ◌≢◌, ◌==◌, ◌≤◌, ◌&&◌, not, List, [], ◌∷◌, ◌++◌, map, Option, None, Some, if◌then◌else◌}
+use Rattle.std.specs.Prelude.{ℕ, ℤ, Bool, true, false, ◌≡◌, ◌≢◌, ◌==◌, ◌≤◌, ◌&&◌, List, [], ◌∷◌, ◌++◌, map, Option, None, Some, if◌then◌else◌}
 use Rattle.unix_names.specs.declared.Pid.{Pid}
 use Rattle.unix_names.specs.declared.Signal.{Signal}
 use Rattle.unix_names.specs.Signals.{signal_of}
@@ -112,3 +112,18 @@ abbrev pub ForkIsFresh : Type 0
 ForkIsFresh = (rows : List Row) (p : Pid) (caller : Row) (n : ℕ) →
     row_of rows p ≡ Some caller → verdict rows (Called p Fork (Number n)) ≡ Legal →
     IsUnused rows n × ((child : Row) × (after rows (Called p Fork (Number n)) ≡ rows ++ child ∷ []) × IsChildOf caller n child)
+
+-- ---- which rows come and go
+-- a living process keeps its row in each legal step but in its own end
+abbrev pub LivingStay : Type 0
+LivingStay = (rows : List Row) (entry : Entry) (q : Pid) (c : Row) → IsSound rows → verdict rows entry ≡ Legal → row_of rows q ≡ Some c → is_living c.life ≡ true →
+    (is_end entry && is_pid (process_of entry) c) ≡ false → (now : Row) × (row_of (after rows entry) q ≡ Some now)
+
+-- the entry is the fork of this process
+abbrev pub IsForkOf : Pid → Entry → Type 0
+IsForkOf q (Called p Fork (Number n)) = q.0 ≡ n
+IsForkOf q _ = ⊥
+
+-- a row that comes is that of a forked process
+abbrev pub OnlyForksAdd : Type 0
+OnlyForksAdd = (rows : List Row) (entry : Entry) (q : Pid) (now : Row) → IsSound rows → verdict rows entry ≡ Legal → row_of rows q ≡ None → row_of (after rows entry) q ≡ Some now → IsForkOf q entry

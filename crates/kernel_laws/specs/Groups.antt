@@ -1,5 +1,5 @@
 -- sessions, and groups that are orphaned (POSIX.1-2017, XBD chapter 3, Orphaned Process Group)
-use Rattle.std.specs.Prelude.{ℕ, ℤ, pos, negsuc, Bool, true, false, ◌≡◌, ◌⊎◌, List, ◌++◌, Option, Some}
+use Rattle.std.specs.Prelude.{pos, true, false, ◌≡◌, ◌⊎◌, List, ◌++◌, Some}
 use Rattle.std.specs.List.{list_any}
 use Rattle.unix_names.specs.declared.Pid.{Pid}
 use Rattle.unix_calls.specs.declared.Call.TheVariants.{Setpgid}
@@ -13,17 +13,17 @@ use Rattle.kernel_model.specs.Rows.{in_group, row_of}
 use Rattle.kernel_model.specs.Orphans.{is_orphaned}
 use Rattle.kernel_model.specs.Refusals.{target_pid, wanted_group}
 use Rattle.kernel_model.specs.Step.{verdict, after}
-use Rattle.kernel_model.specs.Legal.{boot, after_all, IsLegal}
+use Rattle.kernel_model.specs.Legal.{after_all, IsLegal}
 use Rattle.kernel_model.specs.Sound.{IsSound}
-use Rattle.kernel_laws.specs.Tables.{HaveOwnPids}
+use Rattle.unix_calls.specs.Valid.{IsValid}
 
 -- a row whose pid is the id of a session that has rows leads that session, and its own group
 abbrev pub HaveLeaders : List Row → Type 0
 HaveLeaders rows = (c leader : Row) → row_of rows c.pid ≡ Some c → row_of rows c.session ≡ Some leader → (leader.session ≡ c.session) × (leader.group ≡ leader.pid)
 
--- sessions are led so in each table on the way of a legal history
+-- sessions are led so in each table on the way of a legal history of a valid world
 abbrev pub SessionsAreLed : Type 0
-SessionsAreLed = (world : World) (before later : List Entry) → HaveOwnPids world.starts → IsLegal world (before ++ later) → HaveLeaders (after_all world before)
+SessionsAreLed = (world : World) (before later : List Entry) → IsValid world → IsLegal world (before ++ later) → HaveLeaders (after_all world before)
 
 -- the entry sets the group of a member of this group, or makes a process a member
 abbrev pub IsRegroupingIn : List Row → Pid → Entry → Type 0

@@ -3,7 +3,7 @@
 
 ghost use Rattle.kernel_laws.specs.Tables.{StepKeepsSound, BootIsSound, LegalTablesAreSound};
 ghost use Rattle.kernel_laws.specs.Groups.{SessionsAreLed, OrphanedStays};
-ghost use Rattle.kernel_laws.specs.Effects.{OthersAreSignalled, OwnSignals, KillSignalsOnce, ForkIsFresh};
+ghost use Rattle.kernel_laws.specs.Effects.{OthersAreSignalled, OwnSignals, KillSignalsOnce, ForkIsFresh, LivingStay, OnlyForksAdd};
 
 /// Each legal step from a table that can come about leads to one.
 pub fn step_keeps_sound()
@@ -40,4 +40,10 @@ pub fn sessions_are_led()
 /// An orphaned group stays orphaned, but where a setpgid takes a member out or puts one in.
 pub fn orphaned_stays()
     ensures { OrphanedStays }
+{}
+
+/// A living process keeps its row until it ends, and only a fork adds one.
+pub fn rows_come_and_go()
+    ensures stay { LivingStay }
+    ensures come { OnlyForksAdd }
 {}
