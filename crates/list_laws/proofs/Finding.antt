@@ -112,7 +112,7 @@ absent_rest key q x xs e = go (key x == q) e
     go true n = cc
     go false n = n
 
-same_flip : (a b : ℕ) → (a == b) ≡ false → (b == a) ≡ false
+pub same_flip : (a b : ℕ) → (a == b) ≡ false → (b == a) ≡ false
 same_flip a b e = search rules
 
 -- after an append of a key that was absent

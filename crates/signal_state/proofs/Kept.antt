@@ -77,10 +77,10 @@ and_false true = refl
 and_false false = refl
 
 -- a set without s has no s
-has_not : (n : ℕ) (s t : Signal) → (number_of t == number_of s) ≡ true → has (removed n s) t ≡ false
+pub has_not : (n : ℕ) (s t : Signal) → (number_of t == number_of s) ≡ true → has (removed n s) t ≡ false
 has_not n s t e = has-removed n s t ∙ rw e (and_false (has n t))
 
-not_within : (a b : ℕ) (t : Signal) → IsWithin a b → has b t ≡ false → has a t ≡ false
+pub not_within : (a b : ℕ) (t : Signal) → IsWithin a b → has b t ≡ false → has a t ≡ false
 not_within a b t w f = elim (cases_Bool (has a t)) [ inl h ↦ absurd (cc (w t h)) | inr h ↦ h ]
 
 fixed_removed : (n : ℕ) (s : Signal) → IsWithoutFixed n → IsWithoutFixed (removed n s)
@@ -155,3 +155,26 @@ pub not_fixed : (s : Signal) → (s ≡ Kill → ⊥) → (s ≡ Stop → ⊥) �
 not_fixed Kill a b = absurd (a refl)
 not_fixed Stop a b = absurd (b refl)
 not_fixed _ a b = (refl, refl)
+
+-- what taking a signal keeps
+pub kept_delivered : (x : Signals) (s : Signal) (n : ℕ) → IsKept x → n ≡ removed x.pending s →
+    IsKept (record { pending = n; mask = x.mask; ignored = x.ignored; caught = x.caught; stopped = x.stopped; due = x.due })
+kept_delivered x s n k e = record {
+  not_ignored = rw e (disjoint_within _ _ _ (within_removed x.pending s) k.not_ignored);
+  one_action = k.one_action;
+  mask_allowed = k.mask_allowed;
+  ignored_allowed = k.ignored_allowed;
+  caught_allowed = k.caught_allowed;
+  due_stopped = k.due_stopped;
+}
+
+pub kept_stopped : (x : Signals) (s : Signal) (n : ℕ) → IsKept x → n ≡ removed x.pending s →
+    IsKept (record { pending = n; mask = x.mask; ignored = x.ignored; caught = x.caught; stopped = true; due = x.due })
+kept_stopped x s n k e = record {
+  not_ignored = rw e (disjoint_within _ _ _ (within_removed x.pending s) k.not_ignored);
+  one_action = k.one_action;
+  mask_allowed = k.mask_allowed;
+  ignored_allowed = k.ignored_allowed;
+  caught_allowed = k.caught_allowed;
+  due_stopped = λ _. refl;
+}

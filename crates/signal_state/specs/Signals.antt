@@ -20,6 +20,7 @@ AreDisjoint a b = (s : Signal) → has a s ≡ true → has b s ≡ false
 abbrev pub IsWithoutFixed : ℕ → Type 0
 IsWithoutFixed a = (has a Kill ≡ false) × (has a Stop ≡ false)
 
+-- what is always so of a process's signals
 pub record IsKept (x : Signals) : Type 0 where
   pub not_ignored : AreDisjoint x.pending x.ignored
   pub one_action : AreDisjoint x.ignored x.caught

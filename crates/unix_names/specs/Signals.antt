@@ -1,4 +1,5 @@
 use Rattle.std.specs.Prelude.{ℕ, ◌==◌, List, [], ◌∷◌, Option, find, codes}
+use Rattle.std.specs.Str.{bytes_eq}
 use Rattle.unix_names.specs.declared.signals.Signal.{Signal}
 use Rattle.unix_names.specs.declared.signals.Signal.TheVariants.{Hup, Int, Quit, Abrt, Kill, Usr1, Usr2, Pipe, Alrm, Term, Chld, Cont, Stop, Tstp, Ttin, Ttou, Urg}
 use Rattle.unix_names.specs.declared.signals.DefaultAct.{DefaultAct}
@@ -71,3 +72,7 @@ all_signals = Hup ∷ Int ∷ Quit ∷ Abrt ∷ Kill ∷ Usr1 ∷ Usr2 ∷ Pipe 
 -- the signal of a number, if one has it
 unfoldable pub signal_of : ℕ → Option Signal
 signal_of n = find (λ s. number_of s == n) all_signals
+
+-- the signal of a word, if one has it
+unfoldable pub signal_named : List ℕ → Option Signal
+signal_named word = find (λ s. bytes_eq (word_of s) word) all_signals

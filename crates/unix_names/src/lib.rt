@@ -1,14 +1,19 @@
 //! The words of the system: names of processes and groups, nodes, signals and their sets, errors, and what becomes of a process.
 #![tactic(auto)]
 
+pub mod laws;
 mod names;
 mod seq;
 mod sets;
 mod signals;
 mod states;
+#[cfg(test)]
+mod tests;
 
 pub use names::{NOBODY, Name, NoMemory, NodeId, PIDS_PER_NODE, Pid, SYSTEM, home_of, is_before};
 pub use seq::Seq;
 pub use sets::SigSet;
-pub use signals::{ALL_SIGNALS, DefaultAct, Signal, default_of, number_of, signal_of, word_of};
+pub use signals::{
+    ALL_SIGNALS, DefaultAct, Signal, default_of, number_of, signal_named, signal_of, word_of,
+};
 pub use states::{Act, Errno, Life, WaitStatus, is_living};

@@ -1,6 +1,6 @@
 // The signals, with their numbers, words and default actions.
 ghost use Rattle.std.specs.Prelude.{◌≡◌};
-ghost use Rattle.unix_names.specs.Signals.{number_of, word_of, default_of, signal_of};
+ghost use Rattle.unix_names.specs.Signals.{number_of, word_of, default_of, signal_of, signal_named};
 
 /// A signal (POSIX.1-2017, XBD <signal.h>). The numbers are this project's own where the standard leaves them open.
 #[derive(Clone, Copy, Debug, PartialEq, Eq)]
@@ -110,6 +110,17 @@ pub fn word_of(s: Signal) -> &'static str
         Signal::Ttou => "TTOU",
         Signal::Urg => "URG",
     }
+}
+
+/// The signal of a word. None exactly for a word that no signal has.
+#[tactic(auto, unfolding(crate::specs::Signals::signal_named))]
+pub fn signal_named(word: &[u8]) -> Option<Signal>
+    ensures { result ≡ signal_named word.now }
+{
+    ALL_SIGNALS
+        .iter()
+        .copied()
+        .find(|s| word_of(*s).as_bytes() == word)
 }
 
 /// What a signal does by default (POSIX.1-2017, XSH 2.4.3).

@@ -1,0 +1,17 @@
+pub mod Rows
+pub mod Plain
+pub mod SignalFacts
+pub mod Changes
+pub mod Ends
+pub mod Legal
+pub mod Groups
+pub mod Forks
+pub mod Steps
+pub mod Starts
+pub mod Boot
+pub mod Others
+pub mod Own
+pub mod Forms
+pub mod Leaders
+pub mod OrphanedGroups
+pub mod Coming

@@ -1,0 +1,39 @@
+-- a change of one process changes its row and no other
+use Rattle.std.proofs.Common.{◌≡◌, Bool, true, false, refl, subst}
+use Rattle.std.proofs.lemmas.Bool.{eq-eqb}
+use Rattle.unix_names.specs.declared.Pid.{Pid}
+use Rattle.kernel_model.specs.declared.rows.Row.{Row}
+use Rattle.kernel_model.specs.declared.changes.Change.{Change}
+use Rattle.kernel_model.specs.declared.changes.Change.TheVariants.{Delivered, Stopped, Continued, Ended, Reported, Execed, Regrouped, Leading, Acting, Masked}
+use Rattle.kernel_model.specs.Rows.{is_pid}
+use Rattle.kernel_model.specs.Changes.{changed, changed_at}
+
+pub changed_elsewhere : (p : Pid) (change : Change) (c : Row) → is_pid p c ≡ false → changed_at p change c ≡ c
+changed_elsewhere p (Delivered s) c e = rw e
+changed_elsewhere p (Stopped s) c e = rw e
+changed_elsewhere p Continued c e = rw e
+changed_elsewhere p (Ended w) c e = rw e
+changed_elsewhere p Reported c e = rw e
+changed_elsewhere p Execed c e = rw e
+changed_elsewhere p (Regrouped g) c e = rw e
+changed_elsewhere p Leading c e = rw e
+changed_elsewhere p (Acting s act) c e = rw e
+changed_elsewhere p (Masked set) c e = rw e
+
+same_pid : (c : Row) → is_pid c.pid c ≡ true
+same_pid c = eq-eqb c.pid.0 c.pid.0 refl
+
+changed_own : (change : Change) (c : Row) → changed_at c.pid change c ≡ changed change c
+changed_own (Delivered s) c = rw (same_pid c)
+changed_own (Stopped s) c = rw (same_pid c)
+changed_own Continued c = rw (same_pid c)
+changed_own (Ended w) c = rw (same_pid c)
+changed_own Reported c = rw (same_pid c)
+changed_own Execed c = rw (same_pid c)
+changed_own (Regrouped g) c = rw (same_pid c)
+changed_own Leading c = rw (same_pid c)
+changed_own (Acting s act) c = rw (same_pid c)
+changed_own (Masked set) c = rw (same_pid c)
+
+pub changed_here : (p : Pid) (change : Change) (c : Row) → c.pid ≡ p → changed_at p change c ≡ changed change c
+changed_here p change c e = subst (λ q. changed_at q change c ≡ changed change c) e (changed_own change c)

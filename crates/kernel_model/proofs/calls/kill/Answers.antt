@@ -1,0 +1,15 @@
+use Rattle.std.proofs.Common.{◌≡◌, ◌∙◌, None, refl, sym, ap}
+use Rattle.unix_names.specs.Signals.{signal_of}
+use Rattle.kernel_model.specs.Sent.{received, sent_by_kill}
+use Rattle.kernel_model.specs.Step.{after_kill}
+use Rattle.kernel_model.proofs.SentLaws.{received-none}
+use Rattle.kernel_model.proofs.calls.kill.Goals as goal
+
+pub returns-in_default-signal_of : goal.returns-in_default-signal_of
+returns-in_default-signal_of c =
+    let no_signal : signal_of c.args.number ≡ None = sym c.signal_of.ensures.value ∙ c.in_default-signal_of.is in
+    sym (
+    ap (λ reply. after_kill c.args.rows.now.items c.args.caller.now c.args.target c.args.number reply) c.in-Fine.is
+    ∙ ap (λ signal. received (sent_by_kill c.args.caller.now c.args.target c.args.number signal) c.args.rows.now.items) no_signal
+    ∙ received-none (sent_by_kill c.args.caller.now c.args.target c.args.number None) (λ _. refl) c.args.rows.now.items
+    )

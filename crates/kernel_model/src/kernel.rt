@@ -1,0 +1,180 @@
+// The kernel: its table from the first one of a world on, step by step.
+ghost use Rattle.std.specs.Prelude.{◌≡◌, ◌≢◌, [], IfOk, OnOk, OnErr};
+ghost use Rattle.unix_calls.specs.Calls.{HasNames, EntryHasNames};
+ghost use Rattle.kernel_model.specs.Step.{call_verdict, event_verdict, row_verdict, verdict_at, verdict, process_of, row_after, after};
+ghost use Rattle.kernel_model.specs.Legal.{boot, booted, joined_row, first_row, row_with};
+
+use crate::calls::call;
+use crate::events::{can_call, happen, may_happen};
+use crate::replies::allows;
+use crate::rows::{Row, find_row};
+use crate::verdict::{Rule, Verdict};
+use signal_state::Sig;
+use std::alloc::Global;
+use std::marker::Model;
+use unix_calls::{Call, Entry, Event, Reply, Start, World};
+use unix_names::{Life, NoMemory, Pid, SYSTEM, is_living};
+
+/// The table of the one kernel, which contracts see as the list of its rows in order of creation.
+#[derive(Debug, Drop)]
+pub struct Kernel {
+    rows: Vec<Row>,
+}
+
+impl Model for Kernel {
+    ghost use Rattle.std.specs.Prelude.{List};
+    ghost use Rattle.kernel_model.specs.declared.rows.Row.{Row};
+
+    ghost Value = { List Row };
+
+    ghost view = { λ kernel. kernel.rows.items };
+}
+
+/// The row of a start, whose earlier ones have these rows. It joins the group and session of one of them, or leads its own.
+fn first_row(earlier: &[Row], start: &Start) -> Row
+    ensures { result ≡ first_row earlier.now start.now }
+{
+    let joined = start.joined.and_then(|number| earlier.get(number));
+    let (group, session) = match joined {
+        None => (start.pid, start.pid),
+        Some(row) => (row.group, row.session),
+    };
+    Row {
+        pid: start.pid,
+        parent: SYSTEM,
+        group,
+        session,
+        uid: start.uid,
+        life: Life::Runs,
+        change: None,
+        execed: false,
+        sig: Sig::fresh(),
+    }
+}
+
+fn boot_rows(alloc: Global, starts: &[Start]) -> Result<Vec<Row>, NoMemory>
+    ensures { IfOk result (λ rows. rows.items ≡ booted [] starts.now) }
+{
+    let mut rows = Vec::new(alloc);
+    for start in starts {
+        let row = first_row(rows.as_slice(), start);
+        rows.push(row)?;
+    }
+    Ok(rows)
+}
+
+fn call_verdict(rows: &[Row], row: &Row, call: &Call, reply: &Reply) -> Verdict
+    requires { HasNames call.now }
+    ensures { result ≡ call_verdict rows.now row.now call.now reply.now }
+{
+    if !can_call(row) {
+        Verdict::Illegal(Rule::SignalFirst)
+    } else if allows(rows, row, call, reply) {
+        Verdict::Legal
+    } else {
+        Verdict::Illegal(Rule::WrongReply)
+    }
+}
+
+fn event_verdict(rows: &[Row], row: &Row, event: Event) -> Verdict
+    ensures { result ≡ event_verdict rows.now row.now event }
+{
+    if may_happen(rows, row, event) {
+        Verdict::Legal
+    } else if let Event::Moved = event {
+        Verdict::Illegal(Rule::SignalFirst)
+    } else {
+        Verdict::Illegal(Rule::WrongEvent)
+    }
+}
+
+fn row_verdict(rows: &[Row], row: &Row, entry: &Entry) -> Verdict
+    requires { EntryHasNames entry.now }
+    ensures { result ≡ row_verdict rows.now row.now entry.now }
+{
+    match entry {
+        Entry::Called { call, reply, .. } => call_verdict(rows, row, call, reply),
+        Entry::Happened { event, .. } => event_verdict(rows, row, *event),
+    }
+}
+
+/// Changes the table as an entry says that is legal there.
+fn take_step(rows: &mut Vec<Row>, row: &Row, entry: &Entry) -> Result<(), NoMemory>
+    requires names { EntryHasNames entry.now }
+    requires legal { verdict_at rows.old.items (Some row.now) entry.now ≡ Verdict.Legal }
+    ensures ok { OnOk result (rows.new.items ≡ row_after rows.old.items row.now entry.now) }
+    ensures err { OnErr result (rows.new.items ≡ rows.old.items) }
+{
+    match entry {
+        Entry::Called {
+            call: asked,
+            reply,
+            ..
+        } => call(rows, row, asked, reply),
+        Entry::Happened { event, .. } => happen(rows, row, *event),
+    }
+}
+
+/// The process that an entry speaks of.
+fn process_of(entry: &Entry) -> Pid
+    ensures { result ≡ process_of entry.now }
+{
+    match entry {
+        Entry::Called { caller, .. } => *caller,
+        Entry::Happened { pid, .. } => *pid,
+    }
+}
+
+fn living_verdict(rows: &[Row], row: &Row, entry: &Entry) -> Verdict
+    requires { EntryHasNames entry.now }
+    ensures { result ≡ verdict_at rows.now (Some row.now) entry.now }
+{
+    if is_living(row.life) {
+        row_verdict(rows, row, entry)
+    } else {
+        Verdict::Illegal(Rule::UnknownProcess)
+    }
+}
+
+fn step_rows(rows: &mut Vec<Row>, entry: &Entry) -> Result<Verdict, NoMemory>
+    requires { EntryHasNames entry.now }
+    ensures verdict { IfOk result (λ v. v ≡ verdict rows.old.items entry.now) }
+    ensures legal { result ≡ Ok Verdict.Legal → rows.new.items ≡ after rows.old.items entry.now }
+    ensures illegal { result ≢ Ok Verdict.Legal → rows.new.items ≡ rows.old.items }
+{
+    let Some(row) = find_row(rows, process_of(entry)) else {
+        return Ok(Verdict::Illegal(Rule::UnknownProcess));
+    };
+    let verdict = living_verdict(rows, &row, entry);
+    if let Verdict::Legal = verdict {
+        take_step(rows, &row, entry)?;
+    }
+    Ok(verdict)
+}
+
+impl Kernel {
+    /// The first table of a world: a row for each start, in their order. A start leads its own group and session, or has those of the earlier start that it joins.
+    pub fn boot(alloc: Global, world: &World) -> Result<Kernel, NoMemory>
+        ensures { IfOk result (λ kernel. kernel ≡ boot world.now) }
+    {
+        let rows = boot_rows(alloc, world.starts.as_slice())?;
+        Ok(Kernel { rows })
+    }
+
+    /// The rows in order of creation.
+    pub fn rows(&self) -> &[Row]
+        ensures { result.now ≡ self.now }
+    {
+        self.rows.as_slice()
+    }
+
+    /// Steps, if the entry is legal: the table is then the one after it. Otherwise the answer names the first rule that fails, and the table stays. It stays too where memory runs out.
+    pub fn step(&mut self, entry: &Entry) -> Result<Verdict, NoMemory>
+        requires { EntryHasNames entry.now }
+        ensures verdict { IfOk result (λ v. v ≡ verdict self.old entry.now) }
+        ensures legal { result ≡ Ok Verdict.Legal → self.new ≡ after self.old entry.now }
+        ensures illegal { result ≢ Ok Verdict.Legal → self.new ≡ self.old }
+    {
+        step_rows(&mut self.rows, entry)
+    }
+}

@@ -1,0 +1,113 @@
+-- an id's place among entries that rise
+use Rattle.std.proofs.Common.{◌≡◌, ◌==◌, ◌<◌, ◌≤◌, ◌+◌, ℕ, zero, suc, Bool, true, false, nat_lt, List, [], ◌∷◌, ◌++◌, length, get_or, set, take, drop, sym, ap, ◌∙◌, subst, refl, arith, Some, None, if◌then◌else◌, Option}
+use Rattle.std.specs.List.{insert, remove, last_or}
+use Rattle.std.specs.List.Sorted.{IsNonDecreasingBy}
+use Rattle.unix_names.specs.declared.Pid.{Pid}
+use Rattle.ordered_table.specs.declared.entries.Entry.{Entry}
+use Rattle.ordered_table.specs.Entries.{value_at, with_value, without, pids_of, AllAbove, AllUpTo, IsRising}
+use Rattle.ordered_table.specs.Places.{place, IsFoundAt, IsVacantAt}
+
+-- an id below all the entries is below each
+above-at : {T : Type 0} (p : Pid) (es : List (Entry T)) (j : ℕ) (d : Entry T) → AllAbove p es → j < length es → p.0 < (get_or es j d).pid.0
+above-at p [] j d a lt = absurd (omega arith)
+above-at p (e ∷ es) zero d a lt = a.0
+above-at p (e ∷ es) (suc j) d a lt = above-at p es j d a.1 (omega arith)
+
+-- rising ids do not fall
+pub IsNonDecreasingBy-rising : {T : Type 0} (es : List (Entry T)) → IsRising es → (i j : ℕ) (d : Entry T) → i ≤ j → j < length es → (get_or es i d).pid.0 ≤ (get_or es j d).pid.0
+IsNonDecreasingBy-rising [] r i j d le lt = absurd (omega arith)
+IsNonDecreasingBy-rising (e ∷ es) r zero zero d le lt = omega arith
+IsNonDecreasingBy-rising (e ∷ es) r zero (suc j) d le lt = let a = above-at e.pid es j d r.0 (omega arith) in omega arith
+IsNonDecreasingBy-rising (e ∷ es) r (suc i) zero d le lt = absurd (omega arith)
+IsNonDecreasingBy-rising (e ∷ es) r (suc i) (suc j) d le lt = IsNonDecreasingBy-rising es r.1 i j d (omega arith) (omega arith)
+
+-- the place is where the ids stop being lesser
+pub place-from_point : {T : Type 0} (es : List (Entry T)) (p : Pid) (i : ℕ) → i ≤ length es →
+    ((k : ℕ) (d : Entry T) → k < i → nat_lt (get_or es k d).pid.0 p.0 ≡ true) →
+    ((d : Entry T) → i < length es → nat_lt (get_or es i d).pid.0 p.0 ≡ false) → i ≡ place es p
+place-from_point [] p zero le below from = refl
+place-from_point [] p (suc i) le below from = absurd (omega arith)
+place-from_point (e ∷ es) p zero le below from = rw (from e (omega arith)) refl
+place-from_point (e ∷ es) p (suc i) le below from =
+    rw (below zero e (omega arith)) (ap suc (place-from_point es p i (omega arith) (λ k d lt. below (suc k) d (omega arith)) (λ d lt. from d (omega arith))))
+
+found-later : {T : Type 0} (e : Entry T) (es : List (Entry T)) (p : Pid) (i : ℕ) → nat_lt e.pid.0 p.0 ≡ true → IsFoundAt es p i → IsFoundAt (e ∷ es) p (suc i)
+found-later e es p i less h = record {
+  within = let lt = h.within in omega arith;
+  value = λ d. rw less (h.value d);
+  replaced = λ v. rw less (ap (λ zs. e ∷ zs) (h.replaced v));
+  removed = rw less (ap (λ zs. e ∷ zs) h.removed);
+}
+
+found-here : {T : Type 0} (e : Entry T) (es : List (Entry T)) (p : Pid) → nat_lt e.pid.0 p.0 ≡ false → (e.pid.0 == p.0) ≡ true → IsFoundAt (e ∷ es) p zero
+found-here e es p less same = record {
+  within = omega arith;
+  value = λ d. rw (less, same);
+  replaced = λ v. rw (less, same);
+  removed = rw (less, same);
+}
+
+vacant-later : {T : Type 0} (e : Entry T) (es : List (Entry T)) (p : Pid) (i : ℕ) → nat_lt e.pid.0 p.0 ≡ true → IsVacantAt es p i → IsVacantAt (e ∷ es) p (suc i)
+vacant-later e es p i less h = record {
+  within = let le = h.within in omega arith;
+  none = rw less h.none;
+  inserted = λ v. rw less (ap (λ zs. e ∷ zs) (h.inserted v));
+  removed = rw less (ap (λ zs. e ∷ zs) h.removed);
+}
+
+vacant-here : {T : Type 0} (e : Entry T) (es : List (Entry T)) (p : Pid) → nat_lt e.pid.0 p.0 ≡ false → (e.pid.0 == p.0) ≡ false → IsVacantAt (e ∷ es) p zero
+vacant-here e es p less same = record {
+  within = omega arith;
+  none = rw (less, same);
+  inserted = λ v. rw (less, same);
+  removed = rw (less, same);
+}
+
+abbrev Found : {T : Type 0} → List (Entry T) → Pid → Type 0
+Found {T} es p = (i : ℕ) → i ≡ place es p → i < length es → ((d : Entry T) → ((get_or es i d).pid.0 == p.0) ≡ true) → IsFoundAt es p i
+
+found-by : {T : Type 0} (e : Entry T) (es : List (Entry T)) (p : Pid) (b : Bool) → nat_lt e.pid.0 p.0 ≡ b → Found es p →
+    (i : ℕ) → i ≡ (if b then suc (place es p) else zero) → i < length (e ∷ es) → ((d : Entry T) → ((get_or (e ∷ es) i d).pid.0 == p.0) ≡ true) → IsFoundAt (e ∷ es) p i
+found-by e es p true less rest zero at lt same = absurd (omega arith)
+found-by e es p true less rest (suc i) at lt same = found-later e es p i less (rest i (omega arith) (omega arith) same)
+found-by e es p false less rest zero at lt same = found-here e es p less (same e)
+found-by e es p false less rest (suc i) at lt same = absurd (omega arith)
+
+-- an entry of the id stands at its place
+pub found : {T : Type 0} (es : List (Entry T)) (p : Pid) → Found es p
+found [] p i at lt same = absurd (omega arith)
+found (e ∷ es) p i at lt same = found-by e es p (nat_lt e.pid.0 p.0) refl (found es p) i at lt same
+
+abbrev Vacant : {T : Type 0} → List (Entry T) → Pid → Type 0
+Vacant {T} es p = (i : ℕ) → i ≡ place es p → ((d : Entry T) → i < length es → ((get_or es i d).pid.0 == p.0) ≡ false) → IsVacantAt es p i
+
+vacant-by : {T : Type 0} (e : Entry T) (es : List (Entry T)) (p : Pid) (b : Bool) → nat_lt e.pid.0 p.0 ≡ b → Vacant es p →
+    (i : ℕ) → i ≡ (if b then suc (place es p) else zero) → ((d : Entry T) → i < length (e ∷ es) → ((get_or (e ∷ es) i d).pid.0 == p.0) ≡ false) → IsVacantAt (e ∷ es) p i
+vacant-by e es p true less rest zero at other = absurd (omega arith)
+vacant-by e es p true less rest (suc i) at other = vacant-later e es p i less (rest i (omega arith) (λ d lt. other d (omega arith)))
+vacant-by e es p false less rest zero at other = vacant-here e es p less (other e (omega arith))
+vacant-by e es p false less rest (suc i) at other = absurd (omega arith)
+
+-- no entry of the id stands at its place
+pub vacant : {T : Type 0} (es : List (Entry T)) (p : Pid) → Vacant es p
+vacant [] p zero at other = record { within = omega arith; none = refl; inserted = λ v. refl; removed = refl }
+vacant [] p (suc i) at other = absurd (omega arith)
+vacant (e ∷ es) p i at other = vacant-by e es p (nat_lt e.pid.0 p.0) refl (vacant es p) i at other
+
+-- the last id
+pub last-pid : {T : Type 0} (es : List (Entry T)) (i : ℕ) (d : Entry T) (o : Option Pid) → suc i ≡ length es → last_or o (pids_of es) ≡ Some (get_or es i d).pid
+last-pid [] i d o at = absurd (omega arith)
+last-pid (e ∷ []) zero d o at = refl
+last-pid (e ∷ []) (suc i) d o at = absurd (omega arith)
+last-pid (e ∷ f ∷ es) zero d o at = absurd (omega arith)
+last-pid (e ∷ f ∷ es) (suc i) d o at = last-pid (f ∷ es) i d (Some e.pid) (omega arith)
+
+-- none is above the last
+pub AllUpTo-last : {T : Type 0} (es : List (Entry T)) (i : ℕ) (d : Entry T) → suc i ≡ length es → IsRising es → AllUpTo (get_or es i d).pid es
+AllUpTo-last [] i d at r = tt
+AllUpTo-last (e ∷ []) zero d at r = (omega arith, tt)
+AllUpTo-last (e ∷ []) (suc i) d at r = absurd (omega arith)
+AllUpTo-last (e ∷ f ∷ es) zero d at r = absurd (omega arith)
+AllUpTo-last (e ∷ f ∷ es) (suc i) d at r =
+    let above = above-at e.pid (f ∷ es) i d r.0 (omega arith) in
+    (omega arith, AllUpTo-last (f ∷ es) i d (omega arith) r.1)

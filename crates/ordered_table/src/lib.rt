@@ -1,0 +1,12 @@
+//! Values by process id in rising order, and lines of those who wait: what the state of a node is made of.
+#![tactic(auto)]
+
+mod entries;
+mod queue;
+mod table;
+#[cfg(test)]
+mod tests;
+
+pub use entries::Entry;
+pub use queue::Queue;
+pub use table::Table;

@@ -1,0 +1,6 @@
+//! The texts of a run: its history.
+#![tactic(auto)]
+
+mod history;
+
+pub use history::put_history;
