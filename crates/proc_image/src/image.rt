@@ -23,7 +23,7 @@ pub struct Image {
 }
 
 impl Image {
-    ghost use Rattle.proc_image.specs.Scripts.{argument, next_statement, next_child, call_of, stands_again, after_reply};
+    ghost use Rattle.proc_image.specs.Scripts.{argument, next_call, next_statement, next_child, call_of, stands_again, after_reply};
     ghost use Rattle.proc_image.specs.Images.{progress_of, IsFit, start_image, child_image, next_job, JobHasNames, moved_image, with_progress};
     ghost use Rattle.unix_calls.specs.Calls.{HasNames};
 
@@ -95,6 +95,17 @@ impl Image {
                 Job::Ask(self.call_of(statement), node)
             }
             None => Job::Ask(Call::Exit(0), None),
+        }
+    }
+
+    /// The call of the next statement; after the last one that is `exit 0`. It takes no memory.
+    pub fn next_call(&self, world: &World) -> Call
+        ensures call { result ≡ next_call world.now self.now.pid (progress_of self.now) }
+        ensures names { HasNames result }
+    {
+        match self.statement(world) {
+            Some(statement) => self.call_of(statement),
+            None => Call::Exit(0),
         }
     }
 

@@ -13,10 +13,10 @@ fn world(alloc: Global) -> World {
     }
 }
 
-fn repeated(alloc: Global, statement: Statement, times: usize) -> Result<Script, AllocError> {
+fn repeated(alloc: Global, statement: &Statement, times: usize) -> Result<Script, AllocError> {
     let mut statements = Seq::new(alloc);
     for _ in 0..times {
-        statements.push(statement)?;
+        statements.push(*statement)?;
     }
     Ok(Script { statements })
 }
@@ -49,7 +49,7 @@ fn start(script: usize, var: usize, pid: u32) -> Start {
 fn is_at_its_limits(rt: HostRuntime) -> Result<(), Fail> {
     let alloc = rt.alloc();
     let mut world = world(alloc);
-    world.scripts.push(repeated(alloc, Statement::Getpid, 256)?)?;
+    world.scripts.push(repeated(alloc, &Statement::Getpid, 256)?)?;
     world.starts.push(start(0, 1, 2))?;
     assert!(rt; world.is_valid());
     world.nodes = 64;
@@ -59,7 +59,7 @@ fn is_at_its_limits(rt: HostRuntime) -> Result<(), Fail> {
     world.nodes = 0;
     assert!(rt; !world.is_valid());
     world.nodes = 1;
-    world.scripts.push(repeated(alloc, Statement::Getpid, 257)?)?;
+    world.scripts.push(repeated(alloc, &Statement::Getpid, 257)?)?;
     assert!(rt; !world.is_valid());
     Ok(())
 }
@@ -84,8 +84,8 @@ fn makes_1024_processes(rt: HostRuntime) -> Result<(), Fail> {
 fn runs_4096_statements(rt: HostRuntime) -> Result<(), Fail> {
     let alloc = rt.alloc();
     let mut world = world(alloc);
-    world.scripts.push(repeated(alloc, Statement::Getpid, 255)?)?;
-    world.scripts.push(repeated(alloc, Statement::Getpid, 0)?)?;
+    world.scripts.push(repeated(alloc, &Statement::Getpid, 255)?)?;
+    world.scripts.push(repeated(alloc, &Statement::Getpid, 0)?)?;
     let mut pid = 2;
     for var in 0..16 {
         world.starts.push(start(0, var, pid))?;
@@ -117,7 +117,7 @@ fn refuses_forks_of_later_scripts_and_pids_of_other_starts(rt: HostRuntime) -> R
     other.scripts.push(forks(alloc, 1)?)?;
     assert!(rt; !other.is_valid());
     let mut third = self::world(alloc);
-    third.scripts.push(repeated(alloc, Statement::Getpgid(Arg::Var(32)), 1)?)?;
+    third.scripts.push(repeated(alloc, &Statement::Getpgid(Arg::Var(32)), 1)?)?;
     assert!(rt; !third.is_valid());
     Ok(())
 }
