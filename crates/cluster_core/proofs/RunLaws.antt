@@ -72,11 +72,13 @@ getppid_changes_nothing start reply = ap (λ (o : Option Row). after_at (lone_ta
 legal_from : (start : Start) (ss : List Statement) → IsLegalFrom (lone_table start) (process start.pid ss)
 legal_from start [] = (legal_call start (calls.Exit 0) NoReply refl, tt)
 legal_from start (Getpid ∷ ss) = (
-    legal_call start calls.Getpid (Number start.pid.0) (same start.pid.0),
-    subst (λ (rows : List Row). IsLegalFrom rows (process start.pid ss)) (sym (getpid_changes_nothing start (Number start.pid.0))) (legal_from start ss))
+  legal_call start calls.Getpid (Number start.pid.0) (same start.pid.0),
+  subst (λ (rows : List Row). IsLegalFrom rows (process start.pid ss)) (sym (getpid_changes_nothing start (Number start.pid.0))) (legal_from start ss),
+)
 legal_from start (Getppid ∷ ss) = (
-    legal_call start calls.Getppid (Number 1) refl,
-    subst (λ (rows : List Row). IsLegalFrom rows (process start.pid ss)) (sym (getppid_changes_nothing start (Number 1))) (legal_from start ss))
+  legal_call start calls.Getppid (Number 1) refl,
+  subst (λ (rows : List Row). IsLegalFrom rows (process start.pid ss)) (sym (getppid_changes_nothing start (Number 1))) (legal_from start ss),
+)
 legal_from start (Exit n ∷ ss) = (legal_call start (calls.Exit n) NoReply refl, tt)
 legal_from start (_ ∷ ss) = tt
 
@@ -144,15 +146,17 @@ follows_from world pid all [] running p scripts here first stands =
     let next = next_is world all p None scripts first (stands_first all p.position [] stands) in
     (asks_next world pid running p (calls.Exit 0) None here next refl, tt)
 follows_from world pid all (Getpid ∷ ss) running p scripts here first stands =
-    let next = next_is world all p (Some Getpid) scripts first (stands_first all p.position (Getpid ∷ ss) stands) in
-    (asks_next world pid running p calls.Getpid (Some Getpid) here next refl,
-     follows_from world pid all ss (after_entry world running (answered pid calls.Getpid pid.0)) (passed p) scripts
-        (getpid_passes world pid running p pid.0 here next) first (stands_next all p.position Getpid ss stands))
+    let next = next_is world all p (Some Getpid) scripts first (stands_first all p.position (Getpid ∷ ss) stands) in (
+      asks_next world pid running p calls.Getpid (Some Getpid) here next refl,
+      follows_from world pid all ss (after_entry world running (answered pid calls.Getpid pid.0)) (passed p) scripts
+          (getpid_passes world pid running p pid.0 here next) first (stands_next all p.position Getpid ss stands),
+    )
 follows_from world pid all (Getppid ∷ ss) running p scripts here first stands =
-    let next = next_is world all p (Some Getppid) scripts first (stands_first all p.position (Getppid ∷ ss) stands) in
-    (asks_next world pid running p calls.Getppid (Some Getppid) here next refl,
-     follows_from world pid all ss (after_entry world running (answered pid calls.Getppid 1)) (passed p) scripts
-        (getppid_passes world pid running p 1 here next) first (stands_next all p.position Getppid ss stands))
+    let next = next_is world all p (Some Getppid) scripts first (stands_first all p.position (Getppid ∷ ss) stands) in (
+      asks_next world pid running p calls.Getppid (Some Getppid) here next refl,
+      follows_from world pid all ss (after_entry world running (answered pid calls.Getppid 1)) (passed p) scripts
+          (getppid_passes world pid running p 1 here next) first (stands_next all p.position Getppid ss stands),
+    )
 follows_from world pid all (Exit n ∷ ss) running p scripts here first stands =
     let next = next_is world all p (Some (Exit n)) scripts first (stands_first all p.position (Exit n ∷ ss) stands) in
     (asks_next world pid running p (calls.Exit n) (Some (Exit n)) here next refl, tt)
@@ -166,7 +170,7 @@ starts_running world one =
 pub run_follows : (world : World) → IsOneProcess world → Follows world (run world)
 run_follows world one =
     let from_start = follows_from world one.start.pid one.statements one.statements (first_running world) (started world one.start) one.scripts
-        (starts_running world one) one.script (λ k. ap (slice_get one.statements) (add-zero k)) in
+    (starts_running world one) one.script (λ k. ap (slice_get one.statements) (add-zero k)) in
     subst (λ (history : List Entry). Follows world history) (sym (run_is world one)) from_start
 
 -- what holds of the run holds of a history that is the run

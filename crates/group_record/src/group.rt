@@ -82,7 +82,12 @@ impl Group {
     }
 
     /// Puts a signal at the end of the log. No target means every member.
-    pub fn append(&mut self, signal: Signal, target: Option<Pid>, allow: Allow) -> Result<(), NoMemory>
+    pub fn append(
+        &mut self,
+        signal: Signal,
+        target: Option<Pid>,
+        allow: Allow,
+    ) -> Result<(), NoMemory>
         ensures ok { OnOk result (self.new ≡ with_entry self.old (record { signal = signal; target = target; allow = allow })) }
         ensures err { OnErr result (self.new ≡ self.old) }
         ensures grows { OnOk result ((p : Pid) (uid : ℕ) → from_of self.old.members p ≤ length self.old.log → log_part p uid self.new ≡ log_part p uid self.old ++ told p uid (record { signal = signal; target = target; allow = allow })) }
@@ -171,7 +176,15 @@ mod tests {
         g.append(Signal::Term, Some(Pid(2)), Allow::All)?;
         let copy = g.copy()?;
         assert!(rt; g.leave(Pid(2)) && !g.leave(Pid(2)));
-        assert_eq!(rt; g.members.as_slice(), [Member { pid: Pid(3), from: 1, uid: 0 }].as_slice());
+        assert_eq!(rt;
+            g.members.as_slice(),
+            [Member {
+                pid: Pid(3),
+                from: 1,
+                uid: 0
+            }]
+            .as_slice()
+        );
         assert_eq!(rt; copy.members.len(), 2);
         assert_eq!(rt; copy.part_of(Pid(2)).len(), 2);
         assert!(rt; !copy.part_of(Pid(3)).iter().any(|e| e.concerns(Pid(3), 0)));

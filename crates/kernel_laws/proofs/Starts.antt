@@ -43,7 +43,7 @@ append_none (x ∷ xs) = ap (λ l. x ∷ l) (append_none xs)
 start_at : (world : World) (earlier : List Start) (start : Start) (later : List Start) → IsValid world → world.starts ≡ earlier ++ start ∷ later → IsStart world earlier start
 start_at world earlier start later valid e =
     subst (λ l. IsStart world l start) (ap (take (length earlier)) e ∙ take_front earlier (start ∷ later))
-      (valid.starts (length earlier) start (ap (λ l. slice_get l (length earlier)) e ∙ slice_middle earlier start later))
+    (valid.starts (length earlier) start (ap (λ l. slice_get l (length earlier)) e ∙ slice_middle earlier start later))
 
 -- ---- the pids of a node's starts come one after another
 -- the pids of these starts are among those that their nodes have given out
@@ -98,8 +98,8 @@ all_numbered world earlier (start ∷ later) valid e d n =
     let more : starts_at start.node (earlier ++ start ∷ []) ≡ starts_at start.node earlier + 1 = more_starts start.node earlier start ∙ ap (λ b. starts_at start.node earlier + cond b 1 0) one in
     let assoc : (earlier ++ start ∷ []) ++ later ≡ earlier ++ start ∷ later = append_assoc earlier (start ∷ []) later in
     subst (λ l. Distinct start_number l × AreNumbered l l) assoc
-      (all_numbered world (earlier ++ start ∷ []) later valid (e ∙ sym assoc) (distinct-append start_number earlier start absent d)
-        (numbered_append (earlier ++ start ∷ []) earlier start (still_numbered earlier start earlier n) (low is.pid) (high is.pid more)))
+    (all_numbered world (earlier ++ start ∷ []) later valid (e ∙ sym assoc) (distinct-append start_number earlier start absent d)
+    (numbered_append (earlier ++ start ∷ []) earlier start (still_numbered earlier start earlier n) (low is.pid) (high is.pid more)))
   where
     short : length world.starts ≡ length (earlier ++ start ∷ later) → length (earlier ++ start ∷ later) ≡ length earlier + length (start ∷ later) → length earlier ≤ 64
     short a b = let most = valid.limits.starts in omega arith

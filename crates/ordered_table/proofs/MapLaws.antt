@@ -35,20 +35,20 @@ put-other-by e es p q v false true less same ne rest =
     rw (s, ne_eqb p.0 q.0 (λ h. ne (sym h))) refl
 put-other-by e es p q v false false less same ne rest = put-other-before e es p q v (nat_lt p.0 q.0) refl (ltb-false e.pid.0 p.0 less) (eqb-false e.pid.0 p.0 same) ne
   where
-  put-other-before : {T : Type 0} (e : Entry T) (es : List (Entry T)) (p q : Pid) (v : T) (d : Bool) → nat_lt p.0 q.0 ≡ d → p.0 ≤ e.pid.0 → e.pid.0 ≢ p.0 → q.0 ≢ p.0 →
-      (if d then value_at (e ∷ es) q else (if p.0 == q.0 then Some v else None)) ≡ value_at (e ∷ es) q
-  put-other-before e es p q v true before le other ne = refl
-  put-other-before e es p q v false before le other ne =
-      let ge = ltb-false p.0 q.0 before in
-      rw (ne_eqb p.0 q.0 (λ h. ne (sym h)), le-ltb e.pid.0 q.0 (omega arith), ne_eqb e.pid.0 q.0 (λ h. omega arith)) refl
+    put-other-before : {T : Type 0} (e : Entry T) (es : List (Entry T)) (p q : Pid) (v : T) (d : Bool) → nat_lt p.0 q.0 ≡ d → p.0 ≤ e.pid.0 → e.pid.0 ≢ p.0 → q.0 ≢ p.0 →
+        (if d then value_at (e ∷ es) q else (if p.0 == q.0 then Some v else None)) ≡ value_at (e ∷ es) q
+    put-other-before e es p q v true before le other ne = refl
+    put-other-before e es p q v false before le other ne =
+        let ge = ltb-false p.0 q.0 before in
+        rw (ne_eqb p.0 q.0 (λ h. ne (sym h)), le-ltb e.pid.0 q.0 (omega arith), ne_eqb e.pid.0 q.0 (λ h. omega arith)) refl
 
 -- the other ids keep what they have
 pub put-other : {T : Type 0} (es : List (Entry T)) (p q : Pid) (v : T) → q.0 ≢ p.0 → value_at (with_value es p v) q ≡ value_at es q
 put-other [] p q v ne = put-alone p q v (nat_lt p.0 q.0) ne
   where
-  put-alone : {T : Type 0} (p q : Pid) (v : T) (b : Bool) → q.0 ≢ p.0 → (if b then None else (if p.0 == q.0 then Some v else None)) ≡ None
-  put-alone p q v true ne = refl
-  put-alone p q v false ne = rw (ne_eqb p.0 q.0 (λ h. ne (sym h))) refl
+    put-alone : {T : Type 0} (p q : Pid) (v : T) (b : Bool) → q.0 ≢ p.0 → (if b then None else (if p.0 == q.0 then Some v else None)) ≡ None
+    put-alone p q v true ne = refl
+    put-alone p q v false ne = rw (ne_eqb p.0 q.0 (λ h. ne (sym h))) refl
 put-other (e ∷ es) p q v ne = put-other-by e es p q v (nat_lt e.pid.0 p.0) (e.pid.0 == p.0) refl refl ne (put-other es p q v ne)
 
 -- a lesser id is below them too

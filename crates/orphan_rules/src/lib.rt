@@ -26,10 +26,7 @@ pub struct Kin {
 pub fn is_link(k: &Kin) -> bool
     ensures { result ≡ is_link k.now }
 {
-    k.living
-        && k.parent != SYSTEM
-        && k.parent_session == k.session
-        && k.parent_group != k.group
+    k.living && k.parent != SYSTEM && k.parent_session == k.session && k.parent_group != k.group
 }
 
 /// Whether a group is orphaned (POSIX.1-2017, XBD Orphaned Process Group): the parent of each living member is itself a member or is not in the group's session.
@@ -81,11 +78,17 @@ mod tests {
         let before = [shell, job, child_of_job];
         assert!(rt; is_link(&job) && !is_link(&shell) && !is_link(&child_of_job));
         assert!(rt; !is_orphaned(&before, Pid(3)));
-        assert!(rt; is_orphaned(&before, Pid(2)), "a session leader's group is orphaned");
+        assert!(rt;
+            is_orphaned(&before, Pid(2)),
+            "a session leader's group is orphaned"
+        );
         let left_alone = [kin(3, 3, true, 1, 0), child_of_job];
         assert!(rt; newly_orphaned(&before, &left_alone, Pid(3)));
         let ended_job = [shell, kin(3, 3, false, 2, 2), kin(4, 3, true, 1, 0)];
-        assert!(rt; is_orphaned(&ended_job, Pid(3)), "ended members do not count");
+        assert!(rt;
+            is_orphaned(&ended_job, Pid(3)),
+            "ended members do not count"
+        );
         assert!(rt; !newly_orphaned(&ended_job, &left_alone, Pid(3)));
     }
 }

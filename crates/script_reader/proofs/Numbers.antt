@@ -23,9 +23,10 @@ few n = (λ e. grind (arith, nat_tests), λ h. grind (arith, nat_tests))
 pub is_number-decides : (w : List ℕ) → Decides (is_number w) (IsNumber w)
 unfolding is_number
 is_number-decides w =
-    let parts = Decides-and (ltb 0 (length w) && leb (length w) 10 && list_all is_digit w) (ltb (digits_value 10 w) (2 ^ 32)) (Decides-and (ltb 0 (length w) && leb (length w) 10) (list_all is_digit w) (Decides-and (ltb 0 (length w)) (leb (length w) 10) (Decides-ltb 0 (length w)) (few (length w))) (all_digits w)) (Decides-ltb (digits_value 10 w) (2 ^ 32)) in
-    (λ e. let p = parts.0 e in record { some = omega (arith, p.0.0.0); few = p.0.0.1; digits = p.0.1; fits = p.1 },
-     λ n. parts.1 (((omega (arith, n.some), n.few), n.digits), n.fits))
+    let parts = Decides-and (ltb 0 (length w) && leb (length w) 10 && list_all is_digit w) (ltb (digits_value 10 w) (2 ^ 32)) (Decides-and (ltb 0 (length w) && leb (length w) 10) (list_all is_digit w) (Decides-and (ltb 0 (length w)) (leb (length w) 10) (Decides-ltb 0 (length w)) (few (length w))) (all_digits w)) (Decides-ltb (digits_value 10 w) (2 ^ 32)) in (
+      λ e. let p = parts.0 e in record { some = omega (arith, p.0.0.0); few = p.0.0.1; digits = p.0.1; fits = p.1 },
+      λ n. parts.1 (((omega (arith, n.some), n.few), n.digits), n.fits),
+    )
 
 -- what reading a word as a number answers
 pub number_read : (w : List ℕ) (r : Option ℕ) → 0 < length w → SomeIff r (IsNumber w) (digits_value 10 w) → ok_or r BadNumber ≡ number w

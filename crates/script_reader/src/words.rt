@@ -133,7 +133,10 @@ fn begins_with_digit(word: &[u8]) -> bool
 fn signal_named(word: &[u8]) -> Option<Signal>
     ensures { result ≡ signal_named word.now }
 {
-    ALL_SIGNALS.iter().copied().find(|s| is_word(word, word_of(*s)))
+    ALL_SIGNALS
+        .iter()
+        .copied()
+        .find(|s| is_word(word, word_of(*s)))
 }
 
 /// The number of a signal as `kill` and `action` take it: a signal's word, or any number.

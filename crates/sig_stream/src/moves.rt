@@ -66,7 +66,12 @@ pub fn settle(own: &mut Own, v: &mut Vproc, g: &mut Group)
 }
 
 // On a refusal the backlog is as before.
-fn append_for(backlog: &mut Seq<Signal>, entries: &[LogEntry], p: Pid, uid: u32) -> Result<(), NoMemory>
+fn append_for(
+    backlog: &mut Seq<Signal>,
+    entries: &[LogEntry],
+    p: Pid,
+    uid: u32,
+) -> Result<(), NoMemory>
     ensures ok { OnOk result (backlog.new ≡ backlog.old ++ signals_for p uid entries.now) }
     ensures err { OnErr result (backlog.new ≡ backlog.old) }
 {
@@ -79,7 +84,12 @@ fn append_for(backlog: &mut Seq<Signal>, entries: &[LogEntry], p: Pid, uid: u32)
 }
 
 // On a refusal a part of the signals stands at the end.
-fn push_for(backlog: &mut Seq<Signal>, entries: &[LogEntry], p: Pid, uid: u32) -> Result<(), NoMemory>
+fn push_for(
+    backlog: &mut Seq<Signal>,
+    entries: &[LogEntry],
+    p: Pid,
+    uid: u32,
+) -> Result<(), NoMemory>
     ensures ok { OnOk result (backlog.new ≡ backlog.old ++ signals_for p uid entries.now) }
     ensures err { OnErr result (take (length backlog.old) backlog.new ≡ backlog.old) }
 {

@@ -66,16 +66,27 @@ fn trims_what_all_have_passed(rt: HostRuntime) -> Result<(), Fail> {
     for s in [Signal::Hup, Signal::Int, Signal::Quit] {
         g.append(s, None, Allow::All)?;
     }
-    g.members.push(Member { pid: Pid(3), from: 3, uid: 0 })?;
+    g.members.push(Member {
+        pid: Pid(3),
+        from: 3,
+        uid: 0,
+    })?;
     g.append(Signal::Usr1, None, Allow::All)?;
     g.append(Signal::Usr2, None, Allow::All)?;
-    g.members.push(Member { pid: Pid(4), from: 5, uid: 0 })?;
+    g.members.push(Member {
+        pid: Pid(4),
+        from: 5,
+        uid: 0,
+    })?;
     assert!(rt; is_within(&g));
     g.trim();
     assert_eq!(rt; g.log.len(), 2);
     assert_eq!(rt; froms(&g), (0, 2));
     let mut v = process(rt.alloc(), 3, 0);
-    let mut own = Own { sig: Sig::fresh(), taken: 0 };
+    let mut own = Own {
+        sig: Sig::fresh(),
+        taken: 0,
+    };
     assert_eq!(rt; tail_len(&v, &g, 0), 2);
     fold_tail(&mut own, &v, &g);
     assert_eq!(rt; own.taken, 2);
@@ -105,10 +116,21 @@ fn regroups_with_what_was_sent(rt: HostRuntime) -> Result<(), Fail> {
     to.append(Signal::Kill, None, Allow::All)?;
     assert!(rt; is_listed(&v, &from) && !to.has_member(v.pid));
     regroup(&mut v, &mut from, &mut to)?;
-    assert_eq!(rt; v.backlog.as_slice(), [Signal::Usr1, Signal::Hup].as_slice());
+    assert_eq!(rt;
+        v.backlog.as_slice(),
+        [Signal::Usr1, Signal::Hup].as_slice()
+    );
     assert_eq!(rt; v.group, Pid(9));
     assert!(rt; from.is_empty());
-    assert_eq!(rt; to.members.as_slice(), [Member { pid: Pid(3), from: 1, uid: 7 }].as_slice());
+    assert_eq!(rt;
+        to.members.as_slice(),
+        [Member {
+            pid: Pid(3),
+            from: 1,
+            uid: 7
+        }]
+        .as_slice()
+    );
     assert_eq!(rt; stream_len(&v, &to), 2);
     Ok(())
 }

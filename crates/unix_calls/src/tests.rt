@@ -49,7 +49,9 @@ fn start(script: usize, var: usize, pid: u32) -> Start {
 fn is_at_its_limits(rt: HostRuntime) -> Result<(), Fail> {
     let alloc = rt.alloc();
     let mut world = world(alloc);
-    world.scripts.push(repeated(alloc, &Statement::Getpid, 256)?)?;
+    world
+        .scripts
+        .push(repeated(alloc, &Statement::Getpid, 256)?)?;
     world.starts.push(start(0, 1, 2))?;
     assert!(rt; world.is_valid());
     world.nodes = 64;
@@ -59,7 +61,9 @@ fn is_at_its_limits(rt: HostRuntime) -> Result<(), Fail> {
     world.nodes = 0;
     assert!(rt; !world.is_valid());
     world.nodes = 1;
-    world.scripts.push(repeated(alloc, &Statement::Getpid, 257)?)?;
+    world
+        .scripts
+        .push(repeated(alloc, &Statement::Getpid, 257)?)?;
     assert!(rt; !world.is_valid());
     Ok(())
 }
@@ -84,7 +88,9 @@ fn makes_1024_processes(rt: HostRuntime) -> Result<(), Fail> {
 fn runs_4096_statements(rt: HostRuntime) -> Result<(), Fail> {
     let alloc = rt.alloc();
     let mut world = world(alloc);
-    world.scripts.push(repeated(alloc, &Statement::Getpid, 255)?)?;
+    world
+        .scripts
+        .push(repeated(alloc, &Statement::Getpid, 255)?)?;
     world.scripts.push(repeated(alloc, &Statement::Getpid, 0)?)?;
     let mut pid = 2;
     for var in 0..16 {
@@ -117,7 +123,9 @@ fn refuses_forks_of_later_scripts_and_pids_of_other_starts(rt: HostRuntime) -> R
     other.scripts.push(forks(alloc, 1)?)?;
     assert!(rt; !other.is_valid());
     let mut third = self::world(alloc);
-    third.scripts.push(repeated(alloc, &Statement::Getpgid(Arg::Var(32)), 1)?)?;
+    third
+        .scripts
+        .push(repeated(alloc, &Statement::Getpgid(Arg::Var(32)), 1)?)?;
     assert!(rt; !third.is_valid());
     Ok(())
 }

@@ -105,11 +105,22 @@ mod tests {
         v.drop_child(Pid(4));
         v.drop_child(Pid(67));
         assert_eq!(rt; v.children.len(), 63);
-        assert_eq!(rt; v.children.as_slice().iter().take(2).copied().collect::<Vec<Pid>>(rt.alloc())?, vec![in rt.alloc(); Pid(3), Pid(5)]?);
+        assert_eq!(rt;
+            v.children
+                .as_slice()
+                .iter()
+                .take(2)
+                .copied()
+                .collect::<Vec<Pid>>(rt.alloc())?,
+            vec![in rt.alloc(); Pid(3), Pid(5)]?
+        );
         v.push_backlog(Signal::Hup)?;
         v.push_backlog(Signal::Cont)?;
         let copy = v.copy()?;
-        assert_eq!(rt; copy.backlog.as_slice(), [Signal::Hup, Signal::Cont].as_slice());
+        assert_eq!(rt;
+            copy.backlog.as_slice(),
+            [Signal::Hup, Signal::Cont].as_slice()
+        );
         assert_eq!(rt; copy.children.as_slice(), v.children.as_slice());
         Ok(())
     }

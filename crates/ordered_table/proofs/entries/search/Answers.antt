@@ -13,6 +13,6 @@ pub returns-else-at-entries-clause-vacant : goal.returns-else-at-entries-clause-
 returns-else-at-entries-clause-vacant g c =
     let es = c.args.entries.now in
     vacant es c.args.pid _ c.place-at.ensures (elim c.else-at-entries.branch [
-        else-at-entries-via-then-at-entries+else-entries-at w ↦ λ d lt. ne_eqb _ _ (λ e. w.if-entries-at.false (ap (λ e. e.pid.0) (get_or_default es c.place-at.result w.index-entries-at.result d lt) ∙ e))
+      | else-at-entries-via-then-at-entries+else-entries-at w ↦ λ d lt. ne_eqb _ _ (λ e. w.if-entries-at.false (ap (λ e. e.pid.0) (get_or_default es c.place-at.result w.index-entries-at.result d lt) ∙ e))
       | else-at-entries-via-else-at-entries w ↦ λ d lt. absurd (omega arith)
     ])
