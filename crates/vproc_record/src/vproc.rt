@@ -1,5 +1,6 @@
 // The record of a process.
-ghost use Rattle.std.specs.Prelude.{◌≡◌, ◌↔◌, length, IsErr, IfOk, OnOk, OnErr};
+ghost use Rattle.std.specs.Prelude.{◌≡◌, ◌==◌, ◌↔◌, false, length, IsErr, IfOk, OnOk, OnErr};
+ghost use Rattle.std.specs.List.{list_any};
 ghost use Rattle.vproc_record.specs.Vprocs.{with_child, without_child, with_signal};
 
 use crate::children::{Children, Full};
@@ -41,7 +42,8 @@ impl Vproc {
 
     /// Takes a child out; the others keep their order. Where it is not listed nothing changes. It takes no memory.
     pub fn drop_child(&mut self, child: Pid)
-        ensures { self.new ≡ without_child self.old child }
+        ensures dropped { self.new ≡ without_child self.old child }
+        ensures absent { list_any (λ pid. pid.0 == child.0) self.old.children ≡ false → self.new ≡ self.old }
     {
         self.children.remove(child);
     }

@@ -1,0 +1,2 @@
+pub mod Kins
+pub mod Laws
