@@ -58,9 +58,10 @@ pub record IsRead (left left' : Option (List ℕ)) (input : List ℕ) : Type 0 w
 abbrev pub WritesText : (List ℕ → Type 0) → Option (List ℕ) → Option (List ℕ) → Type 0
 WritesText P taken taken' = (output : List ℕ) × P output × Appends taken taken' output
 
--- a front of such a text was written
+-- a front of such a text was written, and not the whole
 abbrev pub WritesTextFront : (List ℕ → Type 0) → Option (List ℕ) → Option (List ℕ) → Type 0
-WritesTextFront P taken taken' = (output : List ℕ) × (count : ℕ) × P output × Appends taken taken' (take count output)
+WritesTextFront P taken taken' =
+    (output : List ℕ) × (count : ℕ) × P output × (count < length output) × Appends taken taken' (take count output)
 
 -- the input was read to its end, and a text that belongs to it was written
 pub record Answers (P : List ℕ → List ℕ → Type 0) (left left' taken taken' : Option (List ℕ)) : Type 0 where
@@ -73,6 +74,10 @@ pub record AnswersFront (P : List ℕ → List ℕ → Type 0) (left left' taken
   pub input : List ℕ
   pub read : IsRead left left' input
   pub writes : WritesTextFront (P input) taken taken'
+
+-- so many bytes came from the source, or fewer
+abbrev pub ReadsUpTo : ℕ → Option (List ℕ) → Option (List ℕ) → Type 0
+ReadsUpTo most left left' = (bytes : List ℕ) × (length bytes ≤ most) × Consumes left left' bytes
 
 -- so many bytes came from the source
 abbrev pub ReadsCount : ℕ → Option (List ℕ) → Option (List ℕ) → Type 0
@@ -94,6 +99,8 @@ pub record IsReplayed {S K : Type 0} (left : S → Option (List ℕ)) (source_fa
       × AnswersFront HasText (left source) (left source') (taken sink) (taken sink')
   -- memory ran out before anything was written
   pub no_memory : status ≡ NoMemory → sink' ≡ sink
+  -- whatever is answered, no more than one byte beyond the limit was read
+  pub bounded : ReadsUpTo (input_limit + 1) (left source) (left source')
   -- an input with a meaning is run, where nothing fails
   pub runs : (input : List ℕ) (world : World) → left source ≡ Some input → length input ≤ input_limit → IsForm input world
       → ¬ Rose (source_faults source) (source_faults source') → ¬ Rose (sink_faults sink) (sink_faults sink')

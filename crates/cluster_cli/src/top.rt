@@ -1,5 +1,5 @@
 // The top calls: from the words of the command line and the source to the sink and the status.
-ghost use Rattle.std.specs.Prelude.{◌≡◌, ◌≢◌, ◌≤◌, ◌↔◌, ◌⊎◌, ℕ, List, map, take, length, IsTrue};
+ghost use Rattle.std.specs.Prelude.{◌≡◌, ◌≢◌, ◌<◌, ◌≤◌, ◌↔◌, ◌⊎◌, ℕ, List, map, take, length, IsTrue};
 ghost use Rattle.std.specs.Io.KnownBytes.{Appends};
 ghost use Rattle.byte_ends.specs.Causes.{Rose};
 ghost use Rattle.cluster_cli.specs.Replay.{Runs, Refuses, HasText, WritesText, WritesTextFront, IsCommand, IsReplayed, input_limit};
@@ -95,7 +95,7 @@ fn put<K: Sink>(sink: &mut K, bytes: &[u8], status: Status) -> Status
     requires { status ≢ Status.WriteFault }
     ensures whole { result ≡ status → Appends (K.taken sink.old) (K.taken sink.new) bytes.now }
     ensures fault { result ≡ Status.WriteFault → Rose (K.faults sink.old) (K.faults sink.new)
-        × ((n : ℕ) × Appends (K.taken sink.old) (K.taken sink.new) (take n bytes.now)) }
+        × ((n : ℕ) × (n < length bytes.now) × Appends (K.taken sink.old) (K.taken sink.new) (take n bytes.now)) }
     ensures some { (result ≡ status) ⊎ (result ≡ Status.WriteFault) }
 {
     match write_all(sink, bytes) {

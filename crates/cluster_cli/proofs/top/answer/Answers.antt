@@ -29,7 +29,7 @@ pub returns-in-Err-Bad-clause-write_fault : goal.returns-in-Err-Bad-clause-write
 returns-in-Err-Bad-clause-write_fault g c = λ e.
     let fault = c.put.ensures.fault e in
     let refuses = refuses_made c.args.input.now c.requires (c.in-Err-Bad.ensures.bad (cc)) in
-    (fault.0, (bad_file, fault.1.0, inr refuses, rw c.as_bytes.ensures.value at fault.1.1))
+    (fault.0, (bad_file, fault.1.0, inr refuses, rw c.as_bytes.ensures.value at fault.1.1, rw c.as_bytes.ensures.value at fault.1.2))
 
 pub run_one-requires : goal.run_one-requires
 run_one-requires g c = form_is_one c.args.input.now c.in-Ok.world c.in-Ok.ensures.found
@@ -53,4 +53,4 @@ returns-clause-write_fault g c = λ e.
     let writes = c.in-Ok-put_history.ensures ∙ ap (λ (history : List Entry). text history true) c.deref.ensures.value in
     let runs = runs_made c.args.input.now c.in-Ok.world c.in-Ok-run_one.entries.items output c.requires c.in-Ok.ensures.found
     c.in-Ok-run_one.ensures.runs c.in-Ok-run_one.ensures.legal c.in-Ok-run_one.ensures.follows writes in
-    (fault.0, (output, fault.1.0, inl runs, rw c.deref-in-Ok-put_history.ensures.value at fault.1.1))
+    (fault.0, (output, fault.1.0, inl runs, rw c.deref-in-Ok-put_history.ensures.value at fault.1.1, rw c.deref-in-Ok-put_history.ensures.value at fault.1.2))

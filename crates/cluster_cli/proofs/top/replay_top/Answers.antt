@@ -18,6 +18,7 @@ returns-in-Ok-clause-answered g c =
       too_long = search rules;
       write_fault = λ e. let fault = c.answer.ensures.write_fault e in (fault.0, record { input = bytes; read = read; writes = fault.1 });
       no_memory = search rules;
+      bounded = (c.in-Ok.bytes.items, omega (arith, c.in-Ok.ensures.short), c.in-Ok.ensures.bytes);
       runs = λ input world told short form source_fine sink_fine.
           let all = read_whole left left' bytes input told read.consumed read.ended in
           let form' = subst (λ (b : List ℕ). IsForm b world) (sym all) form in
