@@ -232,14 +232,20 @@ mod tests {
     use std::test::Fail;
     use unix_names::Pid;
 
-    #[test]
-    fn writes_calls(rt: HostRuntime) -> Result<(), Fail> {
-        let set = SigSet::empty().with(Signal::Term).with(Signal::Usr1);
-        let waited = Call::Waitpid {
+    fn two_signals() -> SigSet {
+        SigSet::empty().with(Signal::Term).with(Signal::Usr1)
+    }
+
+    fn waited() -> Call {
+        Call::Waitpid {
             sel: -1,
             stopped: true,
             continued: true,
-        };
+        }
+    }
+
+    #[test]
+    fn writes_calls(rt: HostRuntime) -> Result<(), Fail> {
         let grouped = Call::Setpgid {
             pid: 0,
             pgid: -4_294_967_295,
@@ -253,12 +259,12 @@ mod tests {
             (Call::Getpgid(0), Reply::Number(2), " getpgid 0 = 2"),
             (Call::Exit(263), Reply::NoReply, " exit 263"),
             (
-                waited,
+                waited(),
                 Reply::Child(Pid(3), WaitStatus::Exited(7)),
                 " waitpid -1 stopped continued = 3 exited 7",
             ),
             (
-                waited,
+                waited(),
                 Reply::Child(Pid(3), WaitStatus::Stopped(Signal::Tstp)),
                 " waitpid -1 stopped continued = 3 stopped TSTP",
             ),
@@ -270,11 +276,15 @@ mod tests {
             (killed, Reply::Fine, " kill 2 77 = ok"),
             (caught, Reply::Fine, " action CHLD catch = ok"),
             (
-                Call::Mask(set),
+                Call::Mask(two_signals()),
                 Reply::Set(SigSet::empty()),
                 " mask USR1 TERM = -",
             ),
-            (Call::Pending, Reply::Set(set), " pending = USR1 TERM"),
+            (
+                Call::Pending,
+                Reply::Set(two_signals()),
+                " pending = USR1 TERM",
+            ),
         ];
         for (call, reply, line) in cases {
             let mut text = String::new(rt.alloc());
