@@ -7,6 +7,8 @@ use Rattle.unix_names.specs.declared.Pid.{Pid}
 use Rattle.unix_names.specs.declared.Life.TheVariants.{Runs}
 use Rattle.unix_calls.specs.declared.Entry.{Entry}
 use Rattle.unix_calls.specs.declared.Start.{Start}
+use Rattle.unix_calls.specs.declared.World.{World}
+use Rattle.unix_calls.specs.Valid.{IsValid}
 use Rattle.signal_state.specs.Signals.{IsKept}
 use Rattle.signal_state.specs.Sig.{fresh}
 use Rattle.kernel_model.specs.declared.rows.Row.{Row}

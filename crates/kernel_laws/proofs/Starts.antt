@@ -1,9 +1,9 @@
 -- the starts of a valid world have pids of their own
-use Rattle.std.proofs.Common.{◌≡◌, ◌≢◌, ◌==◌, ◌<◌, ◌≤◌, ◌+◌, ◌*◌, ◌++◌, ℕ, Bool, true, false, cond, List, [], ◌∷◌, length, take, refl, sym, ap, ◌∙◌, subst, arith, Option, None, Some, All, append_assoc, length-append}
+use Rattle.std.proofs.Common.{◌≡◌, ◌≢◌, ◌==◌, ◌<◌, ◌≤◌, ◌+◌, ◌*◌, ◌++◌, ℕ, Bool, true, false, cond, List, [], ◌∷◌, length, take, refl, sym, ap, ◌∙◌, subst, arith, Option, None, Some, All, append_assoc, length-append, zero-add}
 use Rattle.std.specs.Prelude.{slice_get, count_by}
 use Rattle.std.proofs.lemmas.Bool.{eqb-true, ne_eqb}
 use Rattle.std.proofs.lemmas.List.{take-append-le, take_all}
-use Rattle.std.proofs.lemmas.List.Sums.{count_by-le-length}
+use Rattle.std.proofs.lemmas.List.Sums.{count_by-le-length, sum_by-append}
 use Rattle.unix_calls.specs.declared.Start.{Start}
 use Rattle.unix_calls.specs.declared.World.{World}
 use Rattle.unix_names.specs.declared.NodeId.{NodeId}
@@ -52,8 +52,9 @@ AreNumbered all [] = Unit {0}
 AreNumbered all (start ∷ starts) = (1000000 * start.node.0 + 2 ≤ start.pid.0) × (start.pid.0 < 1000000 * start.node.0 + 2 + starts_at start.node all) × AreNumbered all starts
 
 more_starts : (node : NodeId) (all : List Start) (start : Start) → starts_at node (all ++ start ∷ []) ≡ starts_at node all + cond (start.node.0 == node.0) 1 0
-more_starts node [] start = omega arith
-more_starts node (x ∷ all) start = omega (arith, more_starts node all start)
+more_starts node all start =
+    sum_by-append (λ (s : Start). cond (s.node.0 == node.0) 1 0) all (start ∷ [])
+    ∙ ap (λ n. starts_at node all + n) (zero-add (cond (start.node.0 == node.0) 1 0))
 
 still_numbered : (all : List Start) (start : Start) (starts : List Start) → AreNumbered all starts → AreNumbered (all ++ start ∷ []) starts
 still_numbered all start [] n = tt
