@@ -1,5 +1,5 @@
 -- What a file of the form gives, and what was read.
-use Rattle.std.proofs.Common.{◌≡◌, ℕ, List, [], ◌∷◌, Option, None, Some, refl, sym, subst}
+use Rattle.std.proofs.Common.{◌≡◌, ℕ, List, [], ◌∷◌, Option, None, Some, refl, sym, subst, inr, arith}
 use Rattle.std.specs.Prelude.{All, slice_get}
 use Rattle.std.specs.Io.KnownBytes.{Consumes, IsAtEnd}
 use Rattle.std.proofs.KnownBytes.{Consumes-all}
@@ -14,6 +14,8 @@ use Rattle.unix_calls.specs.declared.Statement.TheVariants.{Getpid, Getppid, Exi
 use Rattle.unix_calls.specs.declared.World.{World}
 use Rattle.script_reader.specs.Form.{Row, IsStatement, AreStatements, IsForm, one_script}
 use Rattle.run_text.specs.History.{IsEntry}
+use Rattle.cluster_cli.specs.declared.status.Status.TheVariants.{NoMemory}
+use Rattle.cluster_cli.specs.Replay.{IsReplayed}
 use Rattle.cluster_core.specs.Run.{IsPlain, IsOneProcess, answered, ended, process, with_script, with_start, run}
 
 plain_statement : (row : Row) (s : Statement) → IsStatement row s → IsPlain s
@@ -75,3 +77,23 @@ pub read_whole : (left left' : Option (List ℕ)) (bytes input : List ℕ) → l
 read_whole left left' bytes input told consumed end =
     let whole = Consumes-all left left' bytes [] bytes consumed end refl in
     rw told at whole
+
+consumes_nothing : (left : Option (List ℕ)) → Consumes left left []
+consumes_nothing None = tt
+consumes_nothing (Some bytes) = refl
+
+-- memory that runs out before anything is read
+pub nothing_done : {S K : Type 0} (left : S → Option (List ℕ)) (source_faults : S → ℕ) (taken : K → Option (List ℕ)) (sink_faults : K → ℕ)
+    (source : S) (sink : K) → IsReplayed left source_faults taken sink_faults source source sink sink NoMemory
+nothing_done left source_faults taken sink_faults source sink = record {
+  done = λ e. cc;
+  bad_file = λ e. cc;
+  read_fault = λ e. cc;
+  too_long = λ e. cc;
+  write_fault = λ e. cc;
+  no_memory = λ e. refl;
+  bounded = ([], omega arith, consumes_nothing (left source));
+  runs = λ input world told short form source_fine sink_fine. inr refl;
+  refuses = λ input told short means_nothing source_fine sink_fine. inr refl;
+  tells_length = λ input told long source_fine. inr refl;
+}
