@@ -108,7 +108,6 @@ fn put<K: Sink>(sink: &mut K, bytes: &[u8], status: Status) -> Status
 mod tests {
     use super::*;
     use byte_ends::{MemSink, MemSource, NoHold};
-    use std::process::Abort;
     use std::test::Fail;
 
     const SMALLEST: &str = "cluster 1\nscript a\nend\nstart 0 a p\n";
@@ -117,92 +116,136 @@ mod tests {
 
     const THREE_WORDS: &str = "cluster 1 1\nscript a\ngetpid\ngetppid\nexit 5\nend\nstart 0 a p\n";
 
-    // One call: what it gets, what fails, and what it answers.
-    #[derive(Clone, Copy)]
-    struct Case<'a> {
-        words: &'a [&'a str],
-        input: &'a [u8],
-        read_fails: &'a [u64],
-        write_fails: &'a [u64],
-        most: usize,
-        status: Status,
-        output: &'a str,
-    }
-
-    fn plain<'a>(words: &'a [&'a str], input: &'a [u8], status: Status, output: &'a str) -> Case<'a>
-        ensures { result.most ≡ 100 }
-    {
-        Case {
-            words,
-            input,
-            read_fails: &[],
-            write_fails: &[],
-            most: 100,
-            status,
-            output,
-        }
-    }
-
-    fn check<R: AllocGlobal + Abort>(rt: &R, case: Case) -> Result<(), Fail>
-        requires { 1 ≤ case.most }
-    {
+    #[test]
+    fn answers(rt: HostRuntime) -> Result<(), Fail> {
         let alloc = rt.alloc();
-        let mut source = MemSource::new(
-            Vec::from_slice(alloc, case.input)?,
-            Vec::from_slice(alloc, case.read_fails)?,
-        );
-        let fails = Vec::from_slice(alloc, case.write_fails)?;
-        let mut sink = MemSink::new(alloc, 1000, case.most, fails).map_err(|_| Fail::from(
-            "no memory",
-        ))?;
-        let status = vproc_top(alloc, case.words, &mut source, &mut sink, &NoHold);
-        assert_eq!(rt; status, case.status, "at {}", case.output);
-        assert_eq!(rt; sink.bytes(), case.output.as_bytes());
+        let none: [u64; 0] = [];
+        let no_words: [&str; 0] = [];
+        let cases = [
+            (
+                ["replay"].as_slice(),
+                SMALLEST,
+                none.as_slice(),
+                none.as_slice(),
+                100,
+                Status::Done,
+                "2 exit 0\nquiet\n",
+            ),
+            (
+                ["replay"].as_slice(),
+                NAMES,
+                none.as_slice(),
+                none.as_slice(),
+                100,
+                Status::Done,
+                "2 getpid = 2\n2 getppid = 1\n2 exit 5\nquiet\n",
+            ),
+            (
+                ["replay"].as_slice(),
+                THREE_WORDS,
+                none.as_slice(),
+                none.as_slice(),
+                100,
+                Status::BadFile,
+                "bad file: line 1: UnknownWord\n",
+            ),
+            (
+                ["replay"].as_slice(),
+                "",
+                none.as_slice(),
+                none.as_slice(),
+                100,
+                Status::BadFile,
+                "bad file: line 1: UnknownWord\n",
+            ),
+            (
+                ["replay"].as_slice(),
+                SMALLEST,
+                [1].as_slice(),
+                none.as_slice(),
+                100,
+                Status::ReadFault,
+                "",
+            ),
+            (
+                ["replay"].as_slice(),
+                SMALLEST,
+                none.as_slice(),
+                [3].as_slice(),
+                4,
+                Status::WriteFault,
+                "2 exit 0",
+            ),
+            (
+                ["run", "9"].as_slice(),
+                SMALLEST,
+                none.as_slice(),
+                none.as_slice(),
+                100,
+                Status::BadWords,
+                "",
+            ),
+            (
+                ["replay", "x"].as_slice(),
+                SMALLEST,
+                none.as_slice(),
+                none.as_slice(),
+                100,
+                Status::BadWords,
+                "",
+            ),
+            (
+                ["make", "0", "0", "1"].as_slice(),
+                SMALLEST,
+                none.as_slice(),
+                none.as_slice(),
+                100,
+                Status::BadWords,
+                "",
+            ),
+            (
+                no_words.as_slice(),
+                SMALLEST,
+                none.as_slice(),
+                none.as_slice(),
+                100,
+                Status::BadWords,
+                "",
+            ),
+        ];
+        for (words, input, read_fails, write_fails, most, status, output) in cases {
+            let mut source = MemSource::new(
+                Vec::from_slice(alloc, input.as_bytes())?,
+                Vec::from_slice(alloc, read_fails)?,
+            );
+            let mut sink = MemSink::new(
+                alloc,
+                1000,
+                most.max(1),
+                Vec::from_slice(alloc, write_fails)?,
+            )
+            .map_err(|_| Fail::from("no memory"))?;
+            assert_eq!(rt;
+                vproc_top(alloc, words, &mut source, &mut sink, &NoHold),
+                status,
+                "at {output}"
+            );
+            assert_eq!(rt; sink.bytes(), output.as_bytes());
+        }
         Ok(())
     }
 
     #[test]
-    fn answers(rt: HostRuntime) -> Result<(), Fail> {
-        let replay = ["replay"];
-        check(
-            &rt,
-            plain(
-                &replay,
-                SMALLEST.as_bytes(),
-                Status::Done,
-                "2 exit 0\nquiet\n",
-            ),
-        )?;
-        let names = "2 getpid = 2\n2 getppid = 1\n2 exit 5\nquiet\n";
-        check(&rt, plain(&replay, NAMES.as_bytes(), Status::Done, names))?;
-        let refused = plain(&replay, THREE_WORDS.as_bytes(), Status::BadFile, BAD_FILE);
-        check(&rt, refused)?;
-        check(&rt, plain(&replay, b"", Status::BadFile, BAD_FILE))
-    }
-
-    #[test]
-    fn refuses_words(rt: HostRuntime) -> Result<(), Fail> {
-        let input = SMALLEST.as_bytes();
-        check(&rt, plain(&["run", "9"], input, Status::BadWords, ""))?;
-        check(&rt, plain(&["replay", "x"], input, Status::BadWords, ""))?;
-        check(
-            &rt,
-            plain(&["make", "0", "0", "1"], input, Status::BadWords, ""),
-        )?;
-        check(&rt, plain(&[], input, Status::BadWords, ""))
-    }
-
-    #[test]
-    fn tells_faults(rt: HostRuntime) -> Result<(), Fail> {
-        let replay = ["replay"];
-        let long = vec![in rt.alloc(); b'a'; INPUT_LIMIT + 1]?;
-        check(&rt, plain(&replay, &long, Status::TooLong, ""))?;
-        let mut unread = plain(&replay, SMALLEST.as_bytes(), Status::ReadFault, "");
-        unread.read_fails = &[1];
-        check(&rt, unread)?;
-        let mut unwritten = plain(&replay, SMALLEST.as_bytes(), Status::WriteFault, "2 exit 0");
-        unwritten.most = 4;
-        unwritten.write_fails = &[3];
-        check(&rt, unwritten)
+    fn tells_length(rt: HostRuntime) -> Result<(), Fail> {
+        let alloc = rt.alloc();
+        let long = vec![in alloc; b'a'; INPUT_LIMIT + 1]?;
+        let mut source = MemSource::new(long, Vec::new(alloc));
+        let mut sink = MemSink::new(alloc, 1000, 100, Vec::new(alloc)).map_err(|_| Fail::from(
+            "no memory",
+        ))?;
+        let status = vproc_top(alloc, &["replay"], &mut source, &mut sink, &NoHold);
+        assert_eq!(rt; status, Status::TooLong);
+        assert_eq!(rt; sink.bytes().len(), 0);
+        Ok(())
     }
 }
