@@ -5,7 +5,6 @@ mod bag;
 mod held;
 mod vector;
 
-
 pub use bag::Bag;
 pub use held::Held;
 pub use vector::{Decided, OpVector, Outcome, Site};
