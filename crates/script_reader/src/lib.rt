@@ -2,6 +2,9 @@
 #![tactic(auto)]
 
 mod faults;
+mod names;
+mod places;
+mod statements;
 mod words;
 
 pub use faults::{Fault, Kind, ReadRefusal};
