@@ -1,3 +1,4 @@
 mod NameLemmas
 mod Numbers
 mod SignalLemmas
+mod Texts

@@ -1,4 +1,5 @@
 pub mod Kinds
+pub mod Lines
 pub mod Names
 pub mod Statements
 pub mod Words

@@ -2,6 +2,7 @@
 #![tactic(auto)]
 
 mod faults;
+mod lines;
 mod names;
 mod places;
 mod statements;
