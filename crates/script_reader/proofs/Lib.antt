@@ -1,2 +1,5 @@
+pub mod FormLemmas
+mod NameLemmas
 pub mod Numbers
-pub mod Statements
+mod SignalLemmas
+mod Texts

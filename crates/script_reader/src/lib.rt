@@ -3,6 +3,10 @@
 
 mod faults;
 mod form;
+mod lines;
+mod names;
+mod places;
+mod statements;
 mod words;
 
 pub use faults::{Fault, Kind, ReadRefusal};

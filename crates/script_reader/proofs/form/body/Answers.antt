@@ -3,7 +3,7 @@ use Rattle.std.proofs.lemmas.Bool.{false≢true}
 use Rattle.std.proofs.lemmas.Result.{err_from_is_err_and}
 use Rattle.std.proofs.lemmas.Grind.{common_steps}
 use Rattle.script_reader.specs.Form.{Row, rows}
-use Rattle.script_reader.proofs.Statements.{IsStuck, stuck, AreStatements-push}
+use Rattle.script_reader.proofs.FormLemmas.{IsStuck, stuck, AreStatements-push}
 use Rattle.script_reader.proofs.form.body.Goals as goal
 
 pub returns-in_err-words-clause-bad : goal.returns-in_err-words-clause-bad

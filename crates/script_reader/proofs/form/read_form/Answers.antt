@@ -4,7 +4,7 @@ use Rattle.std.proofs.lemmas.Result.{err_from_is_err_and}
 use Rattle.std.proofs.lemmas.Grind.{common_steps}
 use Rattle.byte_ends.specs.Text.{words}
 use Rattle.script_reader.specs.Form.{rows, front_rows, start_row}
-use Rattle.script_reader.proofs.Statements.{one_reading, form_made, length-AreStatements}
+use Rattle.script_reader.proofs.FormLemmas.{one_reading, form_made, length-AreStatements}
 use Rattle.script_reader.proofs.form.read_form.Goals as goal
 
 pub returns-then-len-gt-MOST_STATEMENTS-clause-bad : goal.returns-then-len-gt-MOST_STATEMENTS-clause-bad
