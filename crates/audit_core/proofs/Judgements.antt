@@ -12,8 +12,8 @@ use Rattle.kernel_model.specs.Step.{verdict, after}
 use Rattle.kernel_model.specs.Legal.{boot, after_entries, after_all, IsLegalFrom, IsLegal}
 use Rattle.proc_image.specs.Follows.{Running, first_running, Follows}
 use Rattle.proc_image.proofs.FollowsLaws.{FollowsFrom-at}
-use Rattle.audit_core.specs.declared.Judged.{Judged}
-use Rattle.audit_core.specs.declared.Judged.TheVariants.{Legal, IllegalAt}
+use Rattle.audit_core.specs.declared.judge.Judged.{Judged}
+use Rattle.audit_core.specs.declared.judge.Judged.TheVariants.{Legal, IllegalAt}
 use Rattle.audit_core.specs.Judge.{place_of, running_after, IsFirstRuleAt, IsFirstRule, IsIllegalAfter, IsJudged}
 use Rattle.audit_core.proofs.Verdicts.{breaks_none}
 
@@ -74,9 +74,9 @@ place_of-injective _ _ e = absurd (omega arith)
 -- an entry breaks one rule first
 one_first_rule : (world : World) (rows : List Row) (running : Running) (e : Entry) (rule other : Rule) → IsFirstRuleAt world rows running e rule → IsFirstRuleAt world rows running e other → rule ≡ other
 one_first_rule world rows running e rule other one two = elim (cases_order (place_of rule) (place_of other)) [
-  inl same ↦ place_of-injective rule other same
+  | inl same ↦ place_of-injective rule other same
   | inr sides ↦ elim sides [
-    inl below ↦ absurd (two.earlier_hold rule below one.broken)
+    | inl below ↦ absurd (two.earlier_hold rule below one.broken)
     | inr above ↦ absurd (one.earlier_hold other above two.broken)
   ]
 ]
@@ -89,9 +89,9 @@ one_rule world h i rule other one two =
 
 one_place : (world : World) (h : List Entry) (i j : ℕ) (rule other : Rule) → IsIllegalAfter world h i rule → IsIllegalAfter world h j other → i ≡ j
 one_place world h i j rule other one two = elim (cases_order i j) [
-  inl same ↦ same
+  | inl same ↦ same
   | inr sides ↦ elim sides [
-    inl below ↦ absurd (no_later world h i j rule other one two below)
+    | inl below ↦ absurd (no_later world h i j rule other one two below)
     | inr above ↦ absurd (no_later world h j i other rule two one above)
   ]
 ]

@@ -12,8 +12,8 @@ use Rattle.kernel_model.specs.Sound.{IsAlive}
 use Rattle.kernel_model.specs.Step.{process_of, verdict}
 use Rattle.kernel_model.specs.Legal.{after_all, IsLegal}
 use Rattle.proc_image.specs.Follows.{Running, first_running, after_entries, IsInOrder, Follows}
-use Rattle.audit_core.specs.declared.Judged.{Judged}
-use Rattle.audit_core.specs.declared.Judged.TheVariants.{Legal, IllegalAt}
+use Rattle.audit_core.specs.declared.judge.Judged.{Judged}
+use Rattle.audit_core.specs.declared.judge.Judged.TheVariants.{Legal, IllegalAt}
 
 -- ---- the rules
 -- the entry breaks the rule, where the table is this and the processes are this far in their scripts

@@ -75,7 +75,14 @@ fn asks_next(images: &Table<Image>, world: &World, caller: Pid, call: &Call) -> 
 }
 
 // Moves the caller on, and begins the script of its child.
-fn pass_call(images: &mut Table<Image>, alloc: Global, world: &World, caller: Pid, call: &Call, reply: &Reply) -> Result<(), NoMemory>
+fn pass_call(
+    images: &mut Table<Image>,
+    alloc: Global,
+    world: &World,
+    caller: Pid,
+    call: &Call,
+    reply: &Reply,
+) -> Result<(), NoMemory>
     requires valid { IsValid world.now }
     requires kept { IsKept world.now images.old }
     requires in_order { AsksNext world.now caller call.now (running_of images.old caller.0) }
@@ -91,7 +98,14 @@ fn pass_call(images: &mut Table<Image>, alloc: Global, world: &World, caller: Pi
 }
 
 // The child of a fork that succeeded, with the caller's variables from before.
-fn newborn(images: &Table<Image>, alloc: Global, world: &World, caller: Pid, call: &Call, reply: &Reply) -> Result<Option<Image>, NoMemory>
+fn newborn(
+    images: &Table<Image>,
+    alloc: Global,
+    world: &World,
+    caller: Pid,
+    call: &Call,
+    reply: &Reply,
+) -> Result<Option<Image>, NoMemory>
     requires valid { IsValid world.now }
     requires kept { IsKept world.now images.now }
     requires in_order { AsksNext world.now caller call.now (running_of images.now caller.0) }
@@ -99,22 +113,32 @@ fn newborn(images: &Table<Image>, alloc: Global, world: &World, caller: Pid, cal
     ensures fits { IfOk result (λ child. IfSome child (IsFit world.now)) }
 {
     match (call, reply) {
-        (Call::Fork, Reply::Number(pid)) => child_of(images, alloc, world, caller, Pid(*pid)),
+        (Call::Fork, Reply::Number(pid)) => {
+            let child = child_of(images, alloc, world, caller, Pid(*pid))?;
+            Ok(Some(child))
+        }
         _ => Ok(None),
     }
 }
 
-fn child_of(images: &Table<Image>, alloc: Global, world: &World, caller: Pid, pid: Pid) -> Result<Option<Image>, NoMemory>
+// The child of a process that stands at a fork.
+fn child_of(
+    images: &Table<Image>,
+    alloc: Global,
+    world: &World,
+    caller: Pid,
+    pid: Pid,
+) -> Result<Image, NoMemory>
     requires valid { IsValid world.now }
     requires kept { IsKept world.now images.now }
-    requires in_order { AsksNext world.now caller Call.Fork (running_of images.now caller.0) }
-    ensures child { IfOk result (λ child. (at : Progress) (others : Running) → running_of images.now caller.0 ≡ Some at → put pid.0 (next_child world.now caller at) others ≡ begun child others) }
-    ensures fits { IfOk result (λ child. IfSome child (IsFit world.now)) }
+    requires forks { AsksNext world.now caller Call.Fork (running_of images.now caller.0) }
+    ensures child { IfOk result (λ child. (at : Progress) (others : Running) → running_of images.now caller.0 ≡ Some at → put pid.0 (next_child world.now caller at) others ≡ begun (Some child) others) }
+    ensures fits { IfOk result (IsFit world.now) }
 {
-    match images.get(caller) {
-        Some(image) => Ok(Some(image.child(alloc, world, pid)?)),
-        None => Ok(None),
-    }
+    let Some(image) = images.get(caller) else {
+        unreachable!()
+    };
+    image.child(alloc, world, pid)
 }
 
 // Moves one process on after the reply to its next statement.

@@ -125,7 +125,13 @@ fn have_names(entries: &[Entry]) -> bool
     true
 }
 
-fn expect(rt: &impl Abort, alloc: Global, world: &World, entries: &[Entry], judged: Judged) -> Result<(), Fail> {
+fn expect(
+    rt: &impl Abort,
+    alloc: Global,
+    world: &World,
+    entries: &[Entry],
+    judged: Judged,
+) -> Result<(), Fail> {
     assert!(rt; world.is_valid());
     assert!(rt; have_names(entries));
     assert_eq!(rt; audit(alloc, world, entries)?, judged);
@@ -137,21 +143,74 @@ fn a_wait_for_the_low_eight_bits(rt: HostRuntime) -> Result<(), Fail> {
     let alloc = rt.alloc();
     let world = world(alloc, &[FORK, WAIT_ANY])?;
     let again = Reply::Again;
-    let whole = [forks(3), waits(Reply::Again), exits(3, 263), waits_for(3, 7), exits(2, 0)];
+    let whole = [
+        forks(3),
+        waits(Reply::Again),
+        exits(3, 263),
+        waits_for(3, 7),
+        exits(2, 0),
+    ];
     expect(&rt, alloc, &world, &whole, Judged::Legal)?;
     expect(&rt, alloc, &world, &[], Judged::Legal)?;
-    let exchanged = [waits(Reply::Again), forks(3), exits(3, 263), waits_for(3, 7)];
-    expect(&rt, alloc, &world, &exchanged, Judged::IllegalAt(1, Rule::ScriptOrder))?;
-    let other_status = [forks(3), waits(again), exits(3, 263), waits_for(3, 8), exits(2, 0)];
-    expect(&rt, alloc, &world, &other_status, Judged::IllegalAt(4, Rule::WrongReply))?;
+    let exchanged = [
+        waits(Reply::Again),
+        forks(3),
+        exits(3, 263),
+        waits_for(3, 7),
+    ];
+    expect(
+        &rt,
+        alloc,
+        &world,
+        &exchanged,
+        Judged::IllegalAt(1, Rule::ScriptOrder),
+    )?;
+    let other_status = [
+        forks(3),
+        waits(again),
+        exits(3, 263),
+        waits_for(3, 8),
+        exits(2, 0),
+    ];
+    expect(
+        &rt,
+        alloc,
+        &world,
+        &other_status,
+        Judged::IllegalAt(4, Rule::WrongReply),
+    )?;
     let moves_on = [forks(3), waits(Reply::Again), exits(2, 0)];
-    expect(&rt, alloc, &world, &moves_on, Judged::IllegalAt(3, Rule::ScriptOrder))?;
+    expect(
+        &rt,
+        alloc,
+        &world,
+        &moves_on,
+        Judged::IllegalAt(3, Rule::ScriptOrder),
+    )?;
     let ended = [forks(3), exits(3, 263), exits(3, 263)];
-    expect(&rt, alloc, &world, &ended, Judged::IllegalAt(3, Rule::UnknownProcess))?;
+    expect(
+        &rt,
+        alloc,
+        &world,
+        &ended,
+        Judged::IllegalAt(3, Rule::UnknownProcess),
+    )?;
     let nobody = [exits(4, 0), exits(2, 0)];
-    expect(&rt, alloc, &world, &nobody, Judged::IllegalAt(1, Rule::UnknownProcess))?;
+    expect(
+        &rt,
+        alloc,
+        &world,
+        &nobody,
+        Judged::IllegalAt(1, Rule::UnknownProcess),
+    )?;
     let not_due = [forks(3), happened(3, Event::Continued)];
-    expect(&rt, alloc, &world, &not_due, Judged::IllegalAt(2, Rule::WrongEvent))
+    expect(
+        &rt,
+        alloc,
+        &world,
+        &not_due,
+        Judged::IllegalAt(2, Rule::WrongEvent),
+    )
 }
 
 #[test]
@@ -165,8 +224,20 @@ fn a_signal_comes_before_the_next_call(rt: HostRuntime) -> Result<(), Fail> {
     let world = world(alloc, &[kill, Statement::Getpid])?;
     let kills = || called(2, Call::Kill { target: 2, sig: 1 }, Reply::Fine);
     let names = || called(2, Call::Getpid, Reply::Number(2));
-    expect(&rt, alloc, &world, &[kills(), names()], Judged::IllegalAt(2, Rule::SignalFirst))?;
-    expect(&rt, alloc, &world, &[kills(), kills()], Judged::IllegalAt(2, Rule::ScriptOrder))?;
+    expect(
+        &rt,
+        alloc,
+        &world,
+        &[kills(), names()],
+        Judged::IllegalAt(2, Rule::SignalFirst),
+    )?;
+    expect(
+        &rt,
+        alloc,
+        &world,
+        &[kills(), kills()],
+        Judged::IllegalAt(2, Rule::ScriptOrder),
+    )?;
     let ends = happened(2, Event::EndedBy(Signal::Hup));
     expect(&rt, alloc, &world, &[kills(), ends], Judged::Legal)
 }
@@ -176,6 +247,13 @@ fn a_signal_comes_before_the_next_call(rt: HostRuntime) -> Result<(), Fail> {
 fn a_pid_begins_anew(rt: HostRuntime) -> Result<(), Fail> {
     let alloc = rt.alloc();
     let world = world(alloc, &[FORK, WAIT_ANY, FORK])?;
-    let twice = [forks(3), exits(3, 263), waits_for(3, 7), forks(3), exits(3, 263), exits(2, 0)];
+    let twice = [
+        forks(3),
+        exits(3, 263),
+        waits_for(3, 7),
+        forks(3),
+        exits(3, 263),
+        exits(2, 0),
+    ];
     expect(&rt, alloc, &world, &twice, Judged::Legal)
 }
