@@ -1,5 +1,5 @@
 -- The run of one process is legal for the one kernel, and follows its script.
-use Rattle.std.proofs.Common.{◌≡◌, ℕ, suc, ◌+◌, ◌==◌, Bool, true, false, not, if◌then◌else◌, List, [], ◌∷◌, find, Option, None, Some, refl, sym, subst, ap, ◌∙◌, arith, zero-add, add-zero, eq-eqb}
+use Rattle.std.proofs.Common.{◌≡◌, ℕ, suc, ◌+◌, ◌==◌, Bool, true, not, if◌then◌else◌, List, [], ◌∷◌, find, Option, None, Some, refl, sym, subst, ap, ◌∙◌, arith, zero-add, add-zero, eq-eqb}
 use Rattle.std.specs.Prelude.{slice_get, option_map, option_and_then, IfOk, Result, Ok, Err, Vec}
 use Rattle.unix_names.specs.declared.NoMemory.{NoMemory}
 use Rattle.unix_names.specs.declared.Pid.{Pid}
@@ -20,10 +20,10 @@ use Rattle.kernel_model.specs.declared.Row.{Row}
 use Rattle.kernel_model.specs.declared.Rule.TheVariants.{SignalFirst, WrongReply}
 use Rattle.kernel_model.specs.declared.Verdict.{Verdict}
 use Rattle.kernel_model.specs.declared.Verdict.TheVariants.{Legal, Illegal}
-use Rattle.kernel_model.specs.Rows.{row_of}
-use Rattle.kernel_model.specs.Replies.{allows}
-use Rattle.kernel_model.specs.Events.{can_call}
-use Rattle.kernel_model.specs.Step.{call_verdict, verdict_at, verdict, after_at, after}
+use Rattle.kernel_rules.specs.Rows.{row_of}
+use Rattle.kernel_rules.specs.Replies.{allows}
+use Rattle.kernel_rules.specs.Conditions.{can_call}
+use Rattle.kernel_model.specs.Step.{verdict_at, verdict, after_at, after}
 use Rattle.kernel_model.specs.Legal.{joined_row, boot, booted, row_with, IsLegalFrom, IsLegal}
 use Rattle.proc_image.specs.Scripts.{Progress, next_statement, call_or_exit, moved_on, after_reply_or_exit, passed}
 use Rattle.proc_image.specs.Follows.{Running, started, first_running, after_call, after_entry, AsksNext, FollowsFrom, Follows}
