@@ -4,26 +4,27 @@ use Rattle.std.proofs.lemmas.Bool.{cases_order}
 use Rattle.std.proofs.lemmas.List.{take-take}
 use Rattle.unix_calls.specs.declared.Entry.{Entry}
 use Rattle.unix_calls.specs.declared.World.{World}
-use Rattle.kernel_model.specs.declared.Row.{Row}
+use Rattle.kernel_rules.specs.declared.Row.{Row}
 use Rattle.kernel_model.specs.declared.Rule.{Rule}
 use Rattle.kernel_model.specs.declared.Rule.TheVariants.{UnknownProcess, ScriptOrder, SignalFirst, WrongReply, WrongEvent}
+use Rattle.kernel_model.specs.declared.Verdict.{Verdict}
 use Rattle.kernel_model.specs.declared.Verdict.TheVariants as kernel
 use Rattle.kernel_model.specs.Step.{verdict, after}
 use Rattle.kernel_model.specs.Legal.{boot, after_entries, after_all, IsLegalFrom, IsLegal}
-use Rattle.proc_image.specs.Follows.{Running, first_running, Follows}
-use Rattle.proc_image.proofs.FollowsLaws.{FollowsFrom-at}
+use Rattle.proc_image.specs.Follows.{Running, first_running, after_entry, IsInOrder, Follows}
+use Rattle.proc_image.proofs.FollowsLaws.{FollowsFrom-at, FollowsFrom-push, after_entries-push as running-push}
 use Rattle.audit_core.specs.declared.judge.Judged.{Judged}
 use Rattle.audit_core.specs.declared.judge.Judged.TheVariants.{Legal, IllegalAt}
-use Rattle.audit_core.specs.Judge.{place_of, running_after, IsFirstRuleAt, IsFirstRule, IsIllegalAfter, IsJudged}
+use Rattle.audit_core.specs.Judge.{place_of, running_after, IsVerdictAt, IsFirstRuleAt, IsFirstRule, IsIllegalAfter, IsJudged}
 use Rattle.audit_core.proofs.Verdicts.{breaks_none}
 
 -- ---- legal histories, entry by entry
 -- one more legal entry
-pub IsLegalFrom-push : (rows : List Row) (h : List Entry) (e : Entry) → IsLegalFrom rows h → verdict (after_entries rows h) e ≡ kernel.Legal → IsLegalFrom rows (h ++ e ∷ [])
+IsLegalFrom-push : (rows : List Row) (h : List Entry) (e : Entry) → IsLegalFrom rows h → verdict (after_entries rows h) e ≡ kernel.Legal → IsLegalFrom rows (h ++ e ∷ [])
 IsLegalFrom-push rows [] e legal now = (now, tt)
 IsLegalFrom-push rows (x ∷ h) e legal now = (legal.0, IsLegalFrom-push (after rows x) h e legal.1 now)
 
-pub after_entries-push : (rows : List Row) (h : List Entry) (e : Entry) → after_entries rows (h ++ e ∷ []) ≡ after (after_entries rows h) e
+after_entries-push : (rows : List Row) (h : List Entry) (e : Entry) → after_entries rows (h ++ e ∷ []) ≡ after (after_entries rows h) e
 after_entries-push rows [] e = refl
 after_entries-push rows (x ∷ h) e = after_entries-push (after rows x) h e
 
@@ -35,6 +36,32 @@ IsLegalFrom-at rows (x ∷ h) zero e there legal =
     subst (λ (y : Entry). verdict rows y ≡ kernel.Legal) same legal.0
 IsLegalFrom-at rows (x ∷ h) (suc i) e there legal = IsLegalFrom-at (after rows x) h i e there legal.1
 
+-- a history with one more entry that is legal and in order, after a table and processes that are this far
+pub record IsGrown (world : World) (rows : List Row) (running : Running) (e : Entry) (longer : List Entry) : Type 0 where
+  pub legal : IsLegal world longer
+  pub follows : Follows world longer
+  pub table : after rows e ≡ after_all world longer
+  pub progress : after_entry world running e ≡ running_after world longer
+
+grown : (world : World) (h longer : List Entry) (e : Entry) → longer ≡ h ++ e ∷ [] → IsLegal world h → Follows world h → IsVerdictAt world (after_all world h) (running_after world h) e kernel.Legal
+    → IsGrown world (after_all world h) (running_after world h) e longer
+grown world h longer e same legal follows said = record {
+  legal = subst (IsLegal world) (sym same) (IsLegalFrom-push (boot world) h e legal said.0);
+  follows = subst (Follows world) (sym same) (FollowsFrom-push world (first_running world) h e follows said.1);
+  table = sym (ap (after_all world) same ∙ after_entries-push (boot world) h e);
+  progress = sym (ap (running_after world) same ∙ running-push world (first_running world) h e);
+}
+
+-- one more entry of which nothing bad is said
+pub grown_there : (world : World) (h longer : List Entry) (e : Entry) (rows : List Row) (running : Running) (v : Verdict) → longer ≡ h ++ e ∷ [] → IsLegal world h → Follows world h
+    → rows ≡ after_all world h → running ≡ running_after world h → IsVerdictAt world rows running e v → v ≡ kernel.Legal → IsGrown world rows running e longer
+grown_there world h longer e rows running v same legal follows table progress said good =
+    let said_legal = subst (IsVerdictAt world rows running e) good said in
+    let said_there = subst (λ (t : List Row). IsVerdictAt world t running e kernel.Legal) table said_legal in
+    let said_here = subst (λ (far : Running). IsVerdictAt world (after_all world h) far e kernel.Legal) progress said_there in
+    let there = subst (λ (far : Running). IsGrown world (after_all world h) far e longer) (sym progress) (grown world h longer e same legal follows said_here) in
+    subst (λ (t : List Row). IsGrown world t running e longer) (sym table) there
+
 -- ---- no two judgements
 -- a history with an illegal entry is not legal and in order
 illegal_somewhere : (world : World) (h : List Entry) (i : ℕ) (rule : Rule) → IsIllegalAfter world h i rule → IsLegal world h → Follows world h → ⊥
@@ -43,7 +70,8 @@ illegal_somewhere world h i rule illegal legal follows =
     (IsLegalFrom-at (boot world) h i illegal.entry illegal.next legal) (FollowsFrom-at world (first_running world) h i illegal.entry illegal.next follows) illegal.first.broken
 
 slice_get-take : {A : Type 0} (xs : List A) (i j : ℕ) → i < j → slice_get (take j xs) i ≡ slice_get xs i
-slice_get-take [] i j below = ?
+slice_get-take [] i zero below = refl
+slice_get-take [] i (suc j) below = refl
 slice_get-take (x ∷ xs) i zero below = absurd (omega arith)
 slice_get-take (x ∷ xs) zero (suc j) below = refl
 slice_get-take (x ∷ xs) (suc i) (suc j) below = slice_get-take xs i j (omega arith)

@@ -1,5 +1,5 @@
 -- The kernel's verdict and the rules of one entry.
-use Rattle.std.proofs.Common.{◌≡◌, ◌≢◌, ◌<◌, ◌≤◌, ℕ, Bool, true, false, cond, not, List, Option, None, Some, ◌∙◌, refl, sym, ap, subst, arith, lit≤}
+use Rattle.std.proofs.Common.{◌≡◌, ◌≢◌, ◌<◌, ◌≤◌, ◌↔◌, ℕ, Bool, true, false, cond, not, IsTrue, List, Option, None, Some, ◌∙◌, refl, sym, ap, subst, arith, lit≤}
 use Rattle.unix_names.specs.States.{is_living}
 use Rattle.unix_calls.specs.declared.Call.{Call}
 use Rattle.unix_calls.specs.declared.Reply.{Reply}
@@ -8,18 +8,18 @@ use Rattle.unix_calls.specs.declared.Event.TheVariants.{Caught, Discarded, Stopp
 use Rattle.unix_calls.specs.declared.Entry.{Entry}
 use Rattle.unix_calls.specs.declared.Entry.TheVariants.{Called, Happened}
 use Rattle.unix_calls.specs.declared.World.{World}
-use Rattle.kernel_model.specs.declared.Row.{Row}
+use Rattle.kernel_rules.specs.declared.Row.{Row}
 use Rattle.kernel_model.specs.declared.Rule.{Rule}
 use Rattle.kernel_model.specs.declared.Rule.TheVariants.{UnknownProcess, ScriptOrder, SignalFirst, WrongReply, WrongEvent}
 use Rattle.kernel_model.specs.declared.Verdict.{Verdict}
 use Rattle.kernel_model.specs.declared.Verdict.TheVariants.{Legal, Illegal}
-use Rattle.kernel_model.specs.Rows.{row_of}
-use Rattle.kernel_model.specs.Replies.{allows}
-use Rattle.kernel_model.specs.Events.{can_call, may_happen}
+use Rattle.kernel_rules.specs.Rows.{row_of}
+use Rattle.kernel_rules.specs.Replies.{allows}
+use Rattle.kernel_rules.specs.Conditions.{can_call, may_happen}
 use Rattle.kernel_model.specs.Sound.{IsAlive}
 use Rattle.kernel_model.specs.Step.{call_verdict, event_verdict, row_verdict, process_of, verdict_at, verdict}
 use Rattle.proc_image.specs.Follows.{Running, IsInOrder}
-use Rattle.audit_core.specs.Judge.{BreaksAt, place_of, IsFirstRuleAt, IsVerdictAt}
+use Rattle.audit_core.specs.Judge.{BreaksAt, place_of, with_order, IsFirstRuleAt, IsVerdictAt}
 
 -- ---- whether the process is known
 -- the rule is one of those that are asked of a living process by the kernel
@@ -82,7 +82,7 @@ no_order_at rows entry (Some r) e = order_there rows entry r (is_living r.life) 
 
 -- ---- the first rule
 -- an unknown process is asked first
-pub first_unknown : (world : World) (rows : List Row) (running : Running) (entry : Entry) → verdict rows entry ≡ Illegal UnknownProcess → IsFirstRuleAt world rows running entry UnknownProcess
+first_unknown : (world : World) (rows : List Row) (running : Running) (entry : Entry) → verdict rows entry ≡ Illegal UnknownProcess → IsFirstRuleAt world rows running entry UnknownProcess
 first_unknown world rows running entry told = record {
   broken = unknown_is_not_alive rows entry told;
   earlier_hold = λ earlier before broken. omega arith;
@@ -96,7 +96,7 @@ before_order world rows running entry known WrongReply before broken = omega ari
 before_order world rows running entry known WrongEvent before broken = omega arith
 
 -- the order of the script is asked of a process that is known
-pub first_order : (world : World) (rows : List Row) (running : Running) (entry : Entry) → verdict rows entry ≢ Illegal UnknownProcess → ¬ IsInOrder world running entry → IsFirstRuleAt world rows running entry ScriptOrder
+first_order : (world : World) (rows : List Row) (running : Running) (entry : Entry) → verdict rows entry ≢ Illegal UnknownProcess → ¬ IsInOrder world running entry → IsFirstRuleAt world rows running entry ScriptOrder
 first_order world rows running entry known astray = record {
   broken = astray;
   earlier_hold = before_order world rows running entry known;
@@ -116,23 +116,52 @@ before_told world rows running entry rule SignalFirst told order before broken =
 before_told world rows running entry rule WrongReply told order before broken = not_before_itself rule WrongReply (verdict rows entry) told broken before
 before_told world rows running entry rule WrongEvent told order before broken = not_before_itself rule WrongEvent (verdict rows entry) told broken before
 
--- what the kernel says of an entry in order is said of it, if its process is known
-pub told_in_order : (world : World) (rows : List Row) (running : Running) (entry : Entry) (v : Verdict) → verdict rows entry ≡ v → v ≢ Illegal UnknownProcess → IsInOrder world running entry → IsVerdictAt world rows running entry v
-told_in_order world rows running entry Legal told known order = (told, order)
-told_in_order world rows running entry (Illegal UnknownProcess) told known order = absurd (known refl)
-told_in_order world rows running entry (Illegal ScriptOrder) told known order = absurd (no_order_at rows entry (row_of rows (process_of entry)) told)
-told_in_order world rows running entry (Illegal SignalFirst) told known order = record {
+-- what the kernel says of an entry in order is said of it
+told_in_order : (world : World) (rows : List Row) (running : Running) (entry : Entry) (v : Verdict) → verdict rows entry ≡ v → IsInOrder world running entry → IsVerdictAt world rows running entry v
+told_in_order world rows running entry Legal told order = (told, order)
+told_in_order world rows running entry (Illegal UnknownProcess) told order = first_unknown world rows running entry told
+told_in_order world rows running entry (Illegal ScriptOrder) told order = absurd (no_order_at rows entry (row_of rows (process_of entry)) told)
+told_in_order world rows running entry (Illegal SignalFirst) told order = record {
   broken = told;
   earlier_hold = λ earlier. before_told world rows running entry SignalFirst earlier told order;
 }
-told_in_order world rows running entry (Illegal WrongReply) told known order = record {
+told_in_order world rows running entry (Illegal WrongReply) told order = record {
   broken = told;
   earlier_hold = λ earlier. before_told world rows running entry WrongReply earlier told order;
 }
-told_in_order world rows running entry (Illegal WrongEvent) told known order = record {
+told_in_order world rows running entry (Illegal WrongEvent) told order = record {
   broken = told;
   earlier_hold = λ earlier. before_told world rows running entry WrongEvent earlier told order;
 }
+
+told_astray : (world : World) (rows : List Row) (running : Running) (entry : Entry) (v : Verdict) → verdict rows entry ≡ v → ¬ IsInOrder world running entry → IsVerdictAt world rows running entry (with_order false v)
+told_astray world rows running entry (Illegal UnknownProcess) told astray = first_unknown world rows running entry told
+told_astray world rows running entry Legal told astray = first_order world rows running entry (λ unknown. cc) astray
+told_astray world rows running entry (Illegal ScriptOrder) told astray = first_order world rows running entry (λ unknown. cc) astray
+told_astray world rows running entry (Illegal SignalFirst) told astray = first_order world rows running entry (λ unknown. cc) astray
+told_astray world rows running entry (Illegal WrongReply) told astray = first_order world rows running entry (λ unknown. cc) astray
+told_astray world rows running entry (Illegal WrongEvent) told astray = first_order world rows running entry (λ unknown. cc) astray
+
+in_order_stays : (v : Verdict) → with_order true v ≡ v
+in_order_stays Legal = refl
+in_order_stays (Illegal UnknownProcess) = refl
+in_order_stays (Illegal _) = refl
+
+-- what is said of an entry is what the kernel says, with the order of the script asked in its place
+pub verdict_with_order : (world : World) (rows : List Row) (running : Running) (entry : Entry) (in_order : Bool) → (IsTrue in_order ↔ IsInOrder world running entry)
+    → IsVerdictAt world rows running entry (with_order in_order (verdict rows entry))
+verdict_with_order world rows running entry true tells = subst (IsVerdictAt world rows running entry) (sym (in_order_stays (verdict rows entry))) (told_in_order world rows running entry (verdict rows entry) refl (tells.0 refl))
+verdict_with_order world rows running entry false tells = told_astray world rows running entry (verdict rows entry) refl (λ order. let told = tells.1 order in cc)
+
+astray_is_illegal : (v : Verdict) → with_order false v ≢ Legal
+astray_is_illegal Legal e = cc
+astray_is_illegal (Illegal UnknownProcess) e = cc
+astray_is_illegal (Illegal _) e = cc
+
+-- a legal entry is legal for the kernel, and in order
+pub legal_with_order : (in_order : Bool) (v : Verdict) → with_order in_order v ≡ Legal → (v ≡ Legal) × IsTrue in_order
+legal_with_order true v e = (sym (in_order_stays v) ∙ e, refl)
+legal_with_order false v e = absurd (astray_is_illegal v e)
 
 -- ---- broken rules
 -- an entry that is legal and in order breaks none

@@ -1,13 +1,13 @@
 -- what the judge of a history says
-use Rattle.std.specs.Prelude.{◌≡◌, ◌<◌, ℕ, suc, List, take, slice_get, Some}
+use Rattle.std.specs.Prelude.{◌≡◌, ◌<◌, ℕ, suc, Bool, true, false, List, take, slice_get, Some}
 use Rattle.unix_calls.specs.declared.Entry.{Entry}
 use Rattle.unix_calls.specs.declared.World.{World}
-use Rattle.kernel_model.specs.declared.Row.{Row}
+use Rattle.kernel_rules.specs.declared.Row.{Row}
 use Rattle.kernel_model.specs.declared.Rule.{Rule}
 use Rattle.kernel_model.specs.declared.Rule.TheVariants.{UnknownProcess, ScriptOrder, SignalFirst, WrongReply, WrongEvent}
 use Rattle.kernel_model.specs.declared.Verdict.{Verdict}
 use Rattle.kernel_model.specs.declared.Verdict.TheVariants as kernel
-use Rattle.kernel_model.specs.Rows.{row_of}
+use Rattle.kernel_rules.specs.Rows.{row_of}
 use Rattle.kernel_model.specs.Sound.{IsAlive}
 use Rattle.kernel_model.specs.Step.{process_of, verdict}
 use Rattle.kernel_model.specs.Legal.{after_all, IsLegal}
@@ -41,6 +41,12 @@ pub record IsFirstRuleAt (world : World) (rows : List Row) (running : Running) (
 abbrev pub IsVerdictAt : World → List Row → Running → Entry → Verdict → Type 0
 IsVerdictAt world rows running entry kernel.Legal = (verdict rows entry ≡ kernel.Legal) × IsInOrder world running entry
 IsVerdictAt world rows running entry (kernel.Illegal rule) = IsFirstRuleAt world rows running entry rule
+
+-- the kernel's verdict, with the order of the script asked right after the process
+abbrev pub with_order : Bool → Verdict → Verdict
+with_order in_order (kernel.Illegal UnknownProcess) = kernel.Illegal UnknownProcess
+with_order true told = told
+with_order false told = kernel.Illegal ScriptOrder
 
 -- ---- histories
 -- how far each process is after a history

@@ -5,7 +5,7 @@ ghost use Rattle.unix_calls.specs.Valid.{IsValid};
 ghost use Rattle.kernel_model.specs.Step.{after};
 ghost use Rattle.kernel_model.specs.Legal.{boot};
 ghost use Rattle.proc_image.specs.Follows.{first_running, after_entry};
-ghost use Rattle.audit_core.specs.Judge.{IsJudged, IsVerdictAt};
+ghost use Rattle.audit_core.specs.Judge.{IsJudged, IsVerdictAt, with_order};
 ghost use Rattle.audit_core.specs.Table.{running_of, IsKept};
 
 use crate::scripts::{first_images, is_in_order, move_on};
@@ -42,8 +42,9 @@ pub fn audit(alloc: Global, world: &World, entries: &[Entry]) -> Result<Judged, 
 {
     let mut judge = Judge::begin(alloc, world)?;
     for (i, entry) in entries.iter().enumerate() {
-        if let Verdict::Illegal(rule) = judge.step(alloc, world, entry)? {
-            return Ok(Judged::IllegalAt(i as u64 + 1, rule));
+        match judge.step(alloc, world, entry)? {
+            Verdict::Legal => {}
+            Verdict::Illegal(rule) => return Ok(Judged::IllegalAt(i as u64 + 1, rule)),
         }
     }
     Ok(Judged::Legal)
@@ -73,14 +74,22 @@ impl Judge {
         ensures kept { result ≡ Ok Verdict.Legal → IsKept world.now self.new.images }
     {
         let in_order = is_in_order(&self.images, world, entry);
-        match self.kernel.step(entry)? {
-            Verdict::Illegal(Rule::UnknownProcess) => Ok(Verdict::Illegal(Rule::UnknownProcess)),
-            _ if !in_order => Ok(Verdict::Illegal(Rule::ScriptOrder)),
-            Verdict::Legal => {
-                move_on(&mut self.images, alloc, world, entry)?;
-                Ok(Verdict::Legal)
-            }
-            illegal => Ok(illegal),
+        let told = self.kernel.step(entry)?;
+        let verdict = with_order(in_order, told);
+        if let Verdict::Legal = verdict {
+            move_on(&mut self.images, alloc, world, entry)?;
         }
+        Ok(verdict)
+    }
+}
+
+// The kernel's verdict, with the order of the script asked right after the process.
+fn with_order(in_order: bool, told: Verdict) -> Verdict
+    ensures { result ≡ with_order in_order told }
+{
+    match told {
+        Verdict::Illegal(Rule::UnknownProcess) => told,
+        _ if in_order => told,
+        _ => Verdict::Illegal(Rule::ScriptOrder),
     }
 }

@@ -70,8 +70,14 @@ fn asks_next(images: &Table<Image>, world: &World, caller: Pid, call: &Call) -> 
 {
     match images.get(caller) {
         None => false,
-        Some(image) => image.next_call(world) == *call,
+        Some(image) => is_same(&image.next_call(world), call),
     }
+}
+
+fn is_same(call: &Call, other: &Call) -> bool
+    ensures { IsTrue result ↔ (call.now ≡ other.now) }
+{
+    call == other
 }
 
 // Moves the caller on, and begins the script of its child.
