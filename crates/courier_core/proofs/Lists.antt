@@ -17,6 +17,23 @@ pub all_added-append : (names xs ys : List Name) → all_added names (xs ++ ys) 
 all_added-append names [] ys = refl
 all_added-append names (x ∷ xs) ys = all_added-append (added names x) xs ys
 
+-- a front of a front is a front
+pub front-trans : {X : Type 0} (xs ys zs : List X) → take (length xs) ys ≡ xs → take (length ys) zs ≡ ys → take (length xs) zs ≡ xs
+front-trans [] ys zs e f = refl
+front-trans (x ∷ xs) [] zs e f = cc
+front-trans (x ∷ xs) (y ∷ ys) [] e f = cc
+front-trans (x ∷ xs) (y ∷ ys) (z ∷ zs) e f =
+    let xy : y ≡ x = cc in
+    let yz : z ≡ y = cc in
+    let xs_ys : take (length xs) ys ≡ xs = cc in
+    let ys_zs : take (length ys) zs ≡ ys = cc in
+    rw (yz, xy, front-trans xs ys zs xs_ys ys_zs) refl
+
+-- names added in three parts
+pub all_added-three : (old one two new xs ys zs : List Name) → one ≡ all_added old xs → two ≡ all_added one ys → new ≡ all_added two zs → new ≡ all_added old (xs ++ (ys ++ zs))
+all_added-three old one two new xs ys zs first second third =
+    third ∙ (ap (λ ns. all_added ns zs) second ∙ (sym (all_added-append one ys zs) ∙ (ap (λ ns. all_added ns (ys ++ zs)) first ∙ sym (all_added-append old xs (ys ++ zs)))))
+
 take-longer : {X : Type 0} (front xs ys : List X) → take (length front) xs ≡ front → take (length front) (xs ++ ys) ≡ front
 take-longer [] xs ys e = refl
 take-longer (f ∷ fs) [] ys e = cc
@@ -57,7 +74,7 @@ grows-all names (m ∷ ms) n there lacks = grows-step names m ms n (is_name m n)
     grows-step : (names : List Name) (m : Name) (ms : List Name) (n : Name) (b : Bool) → is_name m n ≡ b → (c : Bool) → lists names m ≡ c → (b || lists ms n) ≡ true → lists names n ≡ false →
         (lists ms n ≡ true → lists names n ≡ false → length names < length (all_added names ms)) → length names < length (all_added (if c then names else names ++ m ∷ []) ms)
     grows-step names m ms n b same false known there lacks rest = grows-by names m ms false refl
-    grows-step names m ms n true same true known there lacks rest = let s : m ≡ n = is_name-true m n same in absurd (true-false (sym known ∙ (ap (lists names) s ∙ lacks)))
+    grows-step names m ms n true same true known there lacks rest = let s : m ≡ n = is_name-true m n same in absurd (true-false (sym known ∙ (ap (λ x. lists names x) s ∙ lacks)))
     grows-step names m ms n false same true known there lacks rest = rest there lacks
 
 -- what a bag lacks of a list stands in the list

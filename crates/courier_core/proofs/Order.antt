@@ -56,7 +56,7 @@ before-not_after (G p) (G q) e = lt-not_gt p.0 q.0 e
 -- what the least name so far says of the names that follow
 record IsLeastFrom (best n : Name) (names : List Name) : Type 0 where
   among : lists (best ∷ names) n ≡ true
-  best : is_before best n ≡ false
+  above : is_before best n ≡ false
   first : NoneBefore n names
 
 or-later : (a b c : Bool) → (b || c) ≡ true → (a || (b || c)) ≡ true
@@ -71,7 +71,7 @@ or-skip false false c e = e
 least-from : (best n : Name) (names : List Name) → least_of (Some best) names ≡ Some n → IsLeastFrom best n names
 least-from best n [] e =
     let same : best ≡ n = cc in
-    subst (λ m. IsLeastFrom best m []) same (record { among = rw (is_name-same best) refl; best = before-itself best; first = tt })
+    subst (λ m. IsLeastFrom best m []) same (record { among = rw (is_name-same best) refl; above = before-itself best; first = tt })
 least-from best n (m ∷ ms) e = least-step best n m ms (is_before m best) refl (least-from m n ms) (least-from best n ms) e
   where
     least-step : (best n m : Name) (ms : List Name) (b : Bool) → is_before m best ≡ b →
@@ -79,15 +79,15 @@ least-from best n (m ∷ ms) e = least-step best n m ms (is_before m best) refl 
         least_of (Some (if b then m else best)) ms ≡ Some n → IsLeastFrom best n (m ∷ ms)
     least-step best n m ms true less new old e =
         let h = new e in
-        record { among = or-later (is_name best n) (is_name m n) (lists ms n) h.among; best = not_before-trans best m n (before-not_after m best less) h.best; first = (h.best, h.first) }
+        record { among = or-later (is_name best n) (is_name m n) (lists ms n) h.among; above = not_before-trans best m n (before-not_after m best less) h.above; first = (h.above, h.first) }
     least-step best n m ms false less new old e =
         let h = old e in
-        record { among = or-skip (is_name best n) (is_name m n) (lists ms n) h.among; best = h.best; first = (not_before-trans m best n less h.best, h.first) }
+        record { among = or-skip (is_name best n) (is_name m n) (lists ms n) h.among; above = h.above; first = (not_before-trans m best n less h.above, h.first) }
 
 -- the least of names is one of them, and none comes before it
 pub IsLeast-least_of : (n : Name) (names : List Name) → least_of None names ≡ Some n → IsLeast n names
 IsLeast-least_of n [] e = cc
-IsLeast-least_of n (m ∷ ms) e = let h = least-from m n ms e in record { among = h.among; first = (h.best, h.first) }
+IsLeast-least_of n (m ∷ ms) e = let h = least-from m n ms e in record { among = h.among; first = (h.above, h.first) }
 
 some-least : (best : Name) (names : List Name) → least_of (Some best) names ≡ None → ⊥
 some-least best [] e = cc
@@ -115,13 +115,23 @@ lacking-append bag (x ∷ xs) ys = lacking-step bag x xs ys (not (is_held bag x)
 pub least_of-append : (bag : Bag) (xs ys : List Name) → least_of None (lacking bag (xs ++ ys)) ≡ least_of (least_of None (lacking bag xs)) (lacking bag ys)
 least_of-append bag xs ys = ap (least_of None) (lacking-append bag xs ys) ∙ fold-least None (lacking bag xs) (lacking bag ys)
 
+-- the least lacking name, found in two steps
+pub next-in_steps : (bag : Bag) (wants slice need : List Name) (wanted next : Option Name) → slice ≡ wants → wanted ≡ least_of None (lacking bag slice) → next ≡ least_of wanted (lacking bag need) →
+    least_of None (lacking bag (wants ++ need)) ≡ next
+next-in_steps bag wants slice need wanted next same first second =
+    least_of-append bag wants need ∙ (ap (λ xs. least_of (least_of None (lacking bag xs)) (lacking bag need)) (sym same) ∙ (ap (λ best. least_of best (lacking bag need)) (sym first) ∙ sym second))
+
 any-last : (p : Name → Bool) (x m : Name) (xs : List Name) → last_or (Some x) xs ≡ Some m → p m ≡ true → (p x || list_any p xs) ≡ true
 any-last p x m [] e h = let s : x ≡ m = cc in rw (s, h) refl
 any-last p x m (y ∷ ys) e h = or-later (p x) (p y) (list_any p ys) (any-last p y m ys e h)
 
+or-none : (a b : Bool) → a ≡ false → b ≡ false → (a || b) ≡ false
+or-none true b e f = cc
+or-none false b e f = f
+
 none-before : (n m : Name) (names : List Name) → is_before n m ≡ false → NoneAfter m names → list_any (λ x. is_before n x) names ≡ false
 none-before n m [] less none = refl
-none-before n m (x ∷ xs) less none = rw (not_before-trans n m x less none.0) (none-before n m xs less none.1)
+none-before n m (x ∷ xs) less none = or-none (is_before n x) (list_any (λ y. is_before n y) xs) (not_before-trans n m x less none.0) (none-before n m xs less none.1)
 
 -- a name is below one of those above which m stands, exactly if it is below m
 pub any-greatest : (n m : Name) (names : List Name) → last_or None names ≡ Some m → NoneAfter m names → list_any (λ x. is_before n x) names ≡ is_before n m

@@ -63,10 +63,12 @@ impl Courier {
         ensures grows { OnOk result (HoldsWhatIsBelow self.old → (n : Name) → next_want self.old need.now ≡ Some n → must_restart self.old n ≡ true → length self.old.wants < length self.new.wants) }
     {
         let known = self.wants.len();
-        let added = add_needed_and_held(&mut self.wants, need, &self.bag);
-        if added.is_err() {
-            self.wants.truncate(known);
+        match add_needed_and_held(&mut self.wants, need, &self.bag) {
+            Ok(()) => Ok(()),
+            Err(NoMemory) => {
+                self.wants.truncate(known);
+                Err(NoMemory)
+            }
         }
-        added
     }
 }
