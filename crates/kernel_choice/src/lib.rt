@@ -1,0 +1,2 @@
+//! What the program chooses where the rules of the kernel leave a choice.
+#![tactic(auto)]
