@@ -1,3 +1,5 @@
 pub mod Pending
 pub mod Given
 pub mod Lives
+pub mod Middles
+pub mod Places
