@@ -1,11 +1,12 @@
 -- One node between two turns, and what a process's turn does to it.
-use Rattle.std.specs.Prelude.{ℕ, suc, ◌+◌, Bool, true, false, ◌==◌, ◌&&◌, not, if◌then◌else◌, List, [], ◌∷◌, ◌++◌, map, filter, fold, length, Option, None, Some, option_map, unwrap_or}
+use Rattle.std.specs.Prelude.{ℕ, suc, ℤ, pos, Bool, true, false, ◌==◌, not, if◌then◌else◌, List, [], ◌∷◌, ◌++◌, filter, fold, Option, None, Some, is_some, option_map, unwrap_or}
 use Rattle.std.specs.List.{flat_map}
 use Rattle.unix_names.specs.declared.Pid.{Pid}
 use Rattle.unix_calls.specs.declared.Call.{Call}
 use Rattle.unix_calls.specs.declared.Call.TheVariants.{Fork, Exit, Kill, Setpgid, Setsid}
 use Rattle.unix_calls.specs.declared.Reply.{Reply}
 use Rattle.unix_calls.specs.declared.Reply.TheVariants.{Fine, Number}
+use Rattle.unix_calls.specs.declared.Event.{Event}
 use Rattle.unix_calls.specs.declared.Event.TheVariants.{StoppedBy, EndedBy, Continued, Moved}
 use Rattle.unix_calls.specs.declared.Entry.{Entry}
 use Rattle.unix_calls.specs.declared.Entry.TheVariants.{Called, Happened}
@@ -21,7 +22,7 @@ use Rattle.ordered_table.specs.declared.entries.Entry.{Entry as Valued}
 use Rattle.ordered_table.specs.Entries.{value_at, with_value, without, pids_of}
 use Rattle.proc_image.specs.declared.image.Image.{Image}
 use Rattle.proc_image.specs.Scripts.{next_child, stands_again}
-use Rattle.proc_image.specs.Images.{progress_of, start_image, child_image, moved_image}
+use Rattle.proc_image.specs.Images.{progress_of, child_image, moved_image}
 use Rattle.kernel_rules.specs.declared.rows.Row.{Row}
 use Rattle.kernel_model.specs.declared.verdict.Verdict.{Verdict}
 use Rattle.kernel_model.specs.declared.verdict.Verdict.TheVariants.{Legal, Illegal}
@@ -29,7 +30,6 @@ use Rattle.kernel_rules.specs.Rows.{is_same, row_of, row_named}
 use Rattle.kernel_rules.specs.Refusals.{target_pid, wanted_group}
 use Rattle.kernel_rules.specs.Orphans.{is_newly_orphaned}
 use Rattle.kernel_model.specs.Step.{verdict, after}
-use Rattle.kernel_model.specs.Legal.{boot}
 use Rattle.kernel_choice.specs.Choice.{first_event, reply_of}
 use Rattle.cluster_core.specs.declared.machine.Machine.{Machine}
 
@@ -62,11 +62,25 @@ abbrev pub row_moved : Pid → Option Row → Groups → Groups
 row_moved g None groups = groups
 row_moved g (Some c) groups = moved c.group g c.pid groups
 
+-- a child is in its parent's group
+abbrev pub groups_after_fork : Row → Reply → Groups → Groups
+groups_after_fork r (Number n) groups = joined r.group (record { 0 = n }) groups
+groups_after_fork r reply groups = groups
+
+abbrev pub groups_after_setpgid : List Row → Row → ℕ → ℤ → Reply → Groups → Groups
+groups_after_setpgid rows r t (pos q) Fine groups = row_moved (wanted_group r t q) (row_named rows r t) groups
+groups_after_setpgid rows r t q reply groups = groups
+
+-- who leads a new session leads a new group
+abbrev pub groups_after_setsid : Row → Reply → Groups → Groups
+groups_after_setsid r (Number n) groups = moved r.group r.pid r.pid groups
+groups_after_setsid r reply groups = groups
+
 -- the members of each group after a call of the process of row r, in the table before it
 abbrev pub groups_after_call : List Row → Row → Call → Reply → Groups → Groups
-groups_after_call rows r Fork (Number n) groups = joined r.group (record { 0 = n }) groups
-groups_after_call rows r (Setpgid t q) Fine groups = row_moved (wanted_group r t q) (row_named rows r t) groups
-groups_after_call rows r Setsid (Number n) groups = moved r.group r.pid r.pid groups
+groups_after_call rows r Fork reply groups = groups_after_fork r reply groups
+groups_after_call rows r (Setpgid t q) reply groups = groups_after_setpgid rows r t q reply groups
+groups_after_call rows r Setsid reply groups = groups_after_setsid r reply groups
 groups_after_call rows r call reply groups = groups
 
 abbrev pub groups_after : List Row → Row → Entry → Groups → Groups
@@ -88,26 +102,44 @@ told_of_kill r OwnGroup groups = others r.pid (members_of groups r.group)
 told_of_kill r (One p) groups = others r.pid (p ∷ [])
 told_of_kill r (InGroup g) groups = others r.pid (members_of groups g)
 
+-- the number 0 sends nothing
+abbrev pub told_of_kill_call : Row → Target → ℕ → Reply → Groups → List Pid
+told_of_kill_call r target s Fine groups = if s == 0 then [] else told_of_kill r target groups
+told_of_kill_call r target s reply groups = []
+
 -- a change of group is told to the process and to its parent
 abbrev pub told_of_move : Row → Pid → Option Row → List Pid
 told_of_move r g None = []
 told_of_move r g (Some c) = if is_same c.group g then [] else others r.pid (c.pid ∷ c.parent ∷ [])
 
+abbrev pub told_of_setpgid : List Row → Row → ℕ → ℤ → Reply → List Pid
+told_of_setpgid before r t (pos q) Fine = told_of_move r (wanted_group r t q) (row_named before r t)
+told_of_setpgid before r t q reply = []
+
+-- who leads a new session tells its parent
+abbrev pub told_of_setsid : Row → Reply → List Pid
+told_of_setsid r (Number n) = r.parent ∷ []
+told_of_setsid r reply = []
+
 -- who is told of a call of the process of row r, by the tables before and after it and the groups after it
 abbrev pub told_of_call : List Row → List Row → Row → Call → Reply → Groups → List Pid
 told_of_call before now r (Exit n) reply groups = told_of_end before now r groups
-told_of_call before now r (Kill target s) Fine groups = if s == 0 then [] else told_of_kill r (target_of target) groups
-told_of_call before now r (Setpgid t q) Fine groups = told_of_move r (wanted_group r t q) (row_named before r t)
-told_of_call before now r Setsid (Number n) groups = r.parent ∷ []
+told_of_call before now r (Kill target s) reply groups = told_of_kill_call r (target_of target) s reply groups
+told_of_call before now r (Setpgid t q) reply groups = told_of_setpgid before r t q reply
+told_of_call before now r Setsid reply groups = told_of_setsid r reply
 told_of_call before now r call reply groups = []
+
+-- who is told of an event of the process of row r
+abbrev pub told_of_event : List Row → List Row → Row → Event → Groups → List Pid
+told_of_event before now r (StoppedBy s) groups = r.parent ∷ []
+told_of_event before now r Continued groups = r.parent ∷ []
+told_of_event before now r (EndedBy s) groups = told_of_end before now r groups
+told_of_event before now r event groups = []
 
 -- who is told of an entry, in order: each process whose sleep or stop it may end, and the others of a signalled group
 abbrev pub told : List Row → List Row → Row → Entry → Groups → List Pid
 told before now r (Called caller call reply) groups = told_of_call before now r call reply groups
-told before now r (Happened p (StoppedBy s)) groups = r.parent ∷ []
-told before now r (Happened p Continued) groups = r.parent ∷ []
-told before now r (Happened p (EndedBy s)) groups = told_of_end before now r groups
-told before now r (Happened p event) groups = []
+told before now r (Happened p event) groups = told_of_event before now r event groups
 
 -- a process that sleeps wakes, and a stopped one stays so, to look at its signals
 abbrev pub woken : Phase → Phase
@@ -144,11 +176,14 @@ abbrev pub phase_after_call : World → Image → Call → Reply → Phase
 phase_after_call world image (Exit n) reply = phases.Gone
 phase_after_call world image call reply = if stands_again world (progress_of image) reply then phases.Asleep else phases.Ready
 
+abbrev pub phase_after_event : Event → Phase
+phase_after_event (StoppedBy s) = phases.Stopped
+phase_after_event (EndedBy s) = phases.Gone
+phase_after_event event = phases.Ready
+
 abbrev pub phase_after : World → Image → Entry → Phase
 phase_after world image (Called caller call reply) = phase_after_call world image call reply
-phase_after world image (Happened p (StoppedBy s)) = phases.Stopped
-phase_after world image (Happened p (EndedBy s)) = phases.Gone
-phase_after world image (Happened p event) = phases.Ready
+phase_after world image (Happened p event) = phase_after_event event
 
 -- a call moves the process on in its script, and an event does not
 abbrev pub advanced : World → Image → Entry → Image
@@ -174,10 +209,18 @@ abbrev pub with_image : Option Image → Machine → Machine
 with_image None m = m
 with_image (Some image) m = record m { ready = m.ready ++ image ∷ [] }
 
+-- the pid of the child that an entry makes
+abbrev pub child_pid : Entry → Option Pid
+child_pid (Called caller Fork (Number n)) = Some (record { 0 = n })
+child_pid entry = None
+
+abbrev pub born_as : World → Image → Option Pid → Option Image
+born_as world image None = None
+born_as world image (Some p) = option_map (child_image image p) (next_child world image.pid (progress_of image))
+
 -- the image of the child that an entry makes
 abbrev pub born : World → Image → Entry → Option Image
-born world image (Called caller Fork (Number n)) = option_map (child_image image (record { 0 = n })) (next_child world image.pid (progress_of image))
-born world image entry = None
+born world image entry = born_as world image (child_pid entry)
 
 -- ---- the turn
 -- a table steps where the step is legal
@@ -190,8 +233,7 @@ stepped rows entry = stepped_by (verdict rows entry) rows entry
 
 -- the next pid of a fork after an entry
 abbrev pub serial_after : ℕ → Entry → ℕ
-serial_after serial (Called caller Fork (Number n)) = suc serial
-serial_after serial entry = serial
+serial_after serial entry = if is_some (child_pid entry) then suc serial else serial
 
 -- the table, the groups and the next pid after an entry
 abbrev pub decided : Row → Entry → Machine → Machine

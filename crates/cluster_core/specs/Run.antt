@@ -14,12 +14,8 @@ use Rattle.kernel_rules.specs.declared.rows.Row.{Row}
 use Rattle.kernel_rules.specs.Rows.{row_of}
 use Rattle.kernel_model.specs.Legal.{boot}
 use Rattle.cluster_core.specs.declared.machine.Machine.{Machine}
+pub use Rattle.cluster_core.specs.declared.played.Played.{Played}
 use Rattle.cluster_core.specs.Machine.{Groups, joined, chosen, committed}
-
--- a node, and the entries that it has committed so far
-pub record Played : Type 0 where
-  pub machine : Machine
-  pub history : List Entry
 
 -- each start is a member of its group, in the order of the file
 abbrev pub first_groups : List Row → Groups
@@ -61,7 +57,7 @@ gone world p = gone_from world p.machine.ready p
 
 abbrev pub is_stopped_phase : Phase → Bool
 is_stopped_phase phases.Stopped = true
-is_stopped_phase _ = false
+is_stopped_phase phase = false
 
 -- the first of the queue that is not stopped is moved; nothing is done where there is none
 abbrev pub pushed_from : World → List Image → List Image → Played → Played
@@ -97,7 +93,7 @@ IsQuiet p = p.machine.ready ≡ []
 -- how many turns a schedule stands for
 abbrev pub turn_count : Turn → ℕ
 turn_count (Auto n) = n
-turn_count _ = 1
+turn_count turn = 1
 
 abbrev pub total_turns : List Turn → ℕ
 total_turns [] = 0

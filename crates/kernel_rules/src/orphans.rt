@@ -1,7 +1,7 @@
 // Orphaned process groups (POSIX.1-2017, XBD chapter 3, Orphaned Process Group).
 ghost use Rattle.std.specs.Prelude.{◌≡◌};
 ghost use Rattle.std.specs.List.{list_any};
-ghost use Rattle.kernel_model.specs.Orphans.{is_outside_parent, is_link, is_link_of, is_orphaned, is_stopped_in};
+ghost use Rattle.kernel_rules.specs.Orphans.{is_outside_parent, is_link, is_link_of, is_orphaned, is_stopped_in};
 
 use crate::rows::{Row, find_row, is_stopped};
 use unix_names::{Pid, is_living};

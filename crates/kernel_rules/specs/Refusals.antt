@@ -14,9 +14,9 @@ use Rattle.unix_calls.specs.declared.Target.TheVariants.{OwnGroup, One, InGroup}
 use Rattle.unix_calls.specs.declared.Selector.{Selector}
 use Rattle.unix_calls.specs.declared.Selector.TheVariants as selector
 use Rattle.unix_calls.specs.Calls.{target_of, selector_of}
-use Rattle.kernel_model.specs.declared.rows.Row.{Row}
-use Rattle.kernel_model.specs.Rows.{pid, is_same, is_pid, is_parent, in_group, in_session, is_living_child, is_session_leader, row_named, child_count}
-use Rattle.kernel_model.specs.Permission.{may}
+use Rattle.kernel_rules.specs.declared.rows.Row.{Row}
+use Rattle.kernel_rules.specs.Rows.{pid, is_same, is_pid, is_parent, in_group, in_session, is_living_child, is_session_leader, row_named, child_count}
+use Rattle.kernel_rules.specs.Permission.{may}
 
 -- ---- getpgid and getsid (POSIX.1-2017, XSH getpgid and getsid)
 -- the system process is not told of; otherwise there must be such a process, ended or not

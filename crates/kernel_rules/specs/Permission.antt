@@ -2,8 +2,8 @@
 use Rattle.std.specs.Prelude.{ℕ, Bool, ◌==◌, ◌&&◌, ◌||◌}
 use Rattle.unix_names.specs.declared.Signal.TheVariants.{Cont}
 use Rattle.unix_names.specs.Signals.{number_of}
-use Rattle.kernel_model.specs.declared.rows.Row.{Row}
-use Rattle.kernel_model.specs.Rows.{in_session}
+use Rattle.kernel_rules.specs.declared.rows.Row.{Row}
+use Rattle.kernel_rules.specs.Rows.{in_session}
 
 -- the caller is the superuser, or of one user with the receiver, or sends a continue signal within its session
 abbrev pub may : Row → Row → ℕ → Bool

@@ -1,6 +1,6 @@
 // The rows of the table, and what is looked up in it.
 ghost use Rattle.std.specs.Prelude.{◌≡◌};
-ghost use Rattle.kernel_model.specs.Rows.{row_of, row_named, child_count, is_stopped};
+ghost use Rattle.kernel_rules.specs.Rows.{row_of, row_named, child_count, is_stopped};
 
 use signal_state::Sig;
 use unix_names::{Life, Pid, WaitStatus};
@@ -42,7 +42,7 @@ pub fn find_named(rows: &[Row], caller: &Row, number: u32) -> Option<Row>
 }
 
 /// How many children a process has, ended ones too.
-pub fn count_children(rows: &[Row], parent: Pid) -> usize
+pub(crate) fn count_children(rows: &[Row], parent: Pid) -> usize
     ensures { result ≡ child_count rows.now parent }
 {
     rows.iter().filter(|row| row.parent == parent).count()

@@ -3,8 +3,8 @@ use Rattle.std.specs.Prelude.{Bool, false, ◌&&◌, not, List, Option, None, So
 use Rattle.std.specs.List.{list_any}
 use Rattle.unix_names.specs.declared.Pid.{Pid}
 use Rattle.unix_names.specs.States.{is_living}
-use Rattle.kernel_model.specs.declared.rows.Row.{Row}
-use Rattle.kernel_model.specs.Rows.{row_of, in_group, in_session, is_stopped}
+use Rattle.kernel_rules.specs.declared.rows.Row.{Row}
+use Rattle.kernel_rules.specs.Rows.{row_of, in_group, in_session, is_stopped}
 
 -- the parent is in the member's session, and in another group; the system process has no row and is in no session
 abbrev pub is_outside_parent : Row → Option Row → Bool

@@ -2,7 +2,7 @@
 ghost use Rattle.std.specs.Prelude.{◌≡◌};
 ghost use Rattle.std.specs.List.{list_any};
 ghost use Rattle.unix_calls.specs.Calls.{HasNames};
-ghost use Rattle.kernel_model.specs.Replies.{is_fine, is_no_reply, is_number, is_set, is_group_of, is_session_of, uses_number, is_fresh, is_fresh_number, asked_change, report_of, is_ready_match, is_same_status, is_report, reports, is_wait_answer, is_answer, is_same_errno, is_refused_with, allows};
+ghost use Rattle.kernel_rules.specs.Replies.{is_fine, is_no_reply, is_number, is_set, is_group_of, is_session_of, uses_number, is_fresh, is_fresh_number, asked_change, report_of, is_ready_match, is_same_status, is_report, reports, is_wait_answer, is_answer, is_same_errno, is_refused_with, allows};
 
 use crate::refusals::{is_match, refusal};
 use crate::rows::{Row, find_named, find_row};
@@ -52,7 +52,7 @@ fn is_used(rows: &[Row], number: u32) -> bool
 }
 
 /// Whether a number may be the pid of a new process.
-fn is_fresh(rows: &[Row], number: u32) -> bool
+pub fn is_fresh(rows: &[Row], number: u32) -> bool
     ensures { result ≡ is_fresh rows.now number }
 {
     number > SYSTEM.0 && number != NOBODY.0 && !is_used(rows, number)
@@ -77,14 +77,27 @@ fn asked_change(change: Option<WaitStatus>, stopped: bool, continued: bool) -> O
     }
 }
 
-/// What a child has to report: its end, or a change that is asked for.
-fn report_of(child: &Row, stopped: bool, continued: bool) -> Option<WaitStatus>
+/// What a child has to report: its end, or a change that is asked for. None where it has nothing to report.
+pub fn report_of(child: &Row, stopped: bool, continued: bool) -> Option<WaitStatus>
     ensures { result ≡ report_of child.now.life child.now.change stopped continued }
 {
     match child.life {
         Life::Ended(status) => Some(status),
         Life::Runs | Life::Stopped => asked_change(child.change, stopped, continued),
     }
+}
+
+/// Whether a row is that of a child of the caller that the selector names and that has something to report.
+pub fn is_ready_match(
+    caller: &Row,
+    selector: Selector,
+    stopped: bool,
+    continued: bool,
+    row: &Row,
+) -> bool
+    ensures { result ≡ is_ready_match caller.now selector stopped continued row.now }
+{
+    is_match(caller, selector, row) && report_of(row, stopped, continued).is_some()
 }
 
 fn has_ready_match(
@@ -96,8 +109,7 @@ fn has_ready_match(
 ) -> bool
     ensures { result ≡ list_any (is_ready_match caller.now selector stopped continued) rows.now }
 {
-    rows.iter().any(|row| is_match(caller, selector, row)
-        && report_of(row, stopped, continued).is_some())
+    rows.iter().any(|row| is_ready_match(caller, selector, stopped, continued, row))
 }
 
 fn is_same_status(status: WaitStatus, other: WaitStatus) -> bool

@@ -1,10 +1,10 @@
 -- rows, and what is looked up in a table: the list of its rows in order of creation
-use Rattle.std.specs.Prelude.{ℕ, Bool, true, false, ◌==◌, ◌&&◌, List, filter, find, length, Option, Some, if◌then◌else◌}
+use Rattle.std.specs.Prelude.{ℕ, Bool, true, false, ◌==◌, ◌≡◌, ◌&&◌, List, [], ◌∷◌, filter, find, length, Option, None, Some, if◌then◌else◌}
 use Rattle.unix_names.specs.declared.Pid.{Pid}
 use Rattle.unix_names.specs.declared.Life.{Life}
 use Rattle.unix_names.specs.declared.Life.TheVariants.{Runs, Stopped, Ended}
 use Rattle.unix_names.specs.States.{is_living}
-use Rattle.kernel_model.specs.declared.rows.Row.{Row}
+use Rattle.kernel_rules.specs.declared.rows.Row.{Row}
 
 -- the id of a number
 abbrev pub pid : ℕ → Pid
@@ -63,3 +63,8 @@ children rows p = filter (is_parent p) rows
 -- how many children a process has, ended ones too
 abbrev pub child_count : List Row → Pid → ℕ
 child_count rows p = length (children rows p)
+
+-- no pid comes twice
+abbrev pub AreDistinct : List Row → Type 0
+AreDistinct [] = Unit {0}
+AreDistinct (r ∷ rows) = (row_of rows r.pid ≡ None) × AreDistinct rows

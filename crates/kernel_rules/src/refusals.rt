@@ -2,9 +2,9 @@
 ghost use Rattle.std.specs.Prelude.{◌≡◌};
 ghost use Rattle.std.specs.List.{list_any};
 ghost use Rattle.unix_calls.specs.Calls.{IsName, HasNames};
-ghost use Rattle.kernel_model.specs.Permission.{may};
-ghost use Rattle.kernel_model.specs.Rows.{in_group};
-ghost use Rattle.kernel_model.specs.Refusals.{look_refusal, fork_refusal, selects, is_match, wait_refusal, is_sendable, is_named, is_permitted, is_nobody, is_system, is_forbidden, kill_refusal, target_pid, wanted_group, is_own, is_execed_child, is_in_session_group, is_fixed_in_group, regroup_refusal, setpgid_refusal, setsid_refusal, action_refusal, refusal};
+ghost use Rattle.kernel_rules.specs.Permission.{may};
+ghost use Rattle.kernel_rules.specs.Rows.{in_group};
+ghost use Rattle.kernel_rules.specs.Refusals.{look_refusal, fork_refusal, selects, is_match, wait_refusal, is_sendable, is_named, is_permitted, is_nobody, is_system, is_forbidden, kill_refusal, target_pid, wanted_group, is_own, is_execed_child, is_in_session_group, is_fixed_in_group, regroup_refusal, setpgid_refusal, setsid_refusal, action_refusal, refusal};
 
 use crate::rows::{Row, count_children, find_named};
 use unix_calls::{Call, Selector, Target, selector_of, target_of};

@@ -1,10 +1,10 @@
-use Rattle.std.proofs.Common.{◌∙◌, ap, sym, subst, rules, arith}
+use Rattle.std.proofs.Common.{◌∙◌, ap, sym, subst, rules}
 use Rattle.std.proofs.lemmas.Int.{to_z-of_z}
 use mir.Val.{SFits}
 use mir.Syntax.{w64}
 use Rattle.unix_calls.specs.Calls.{IsName, HasNames, target_of}
-use Rattle.kernel_model.specs.Refusals.{kill_refusal, refusal}
-use Rattle.kernel_model.proofs.refusals.refusal.Goals as goal
+use Rattle.kernel_rules.specs.Refusals.{kill_refusal, refusal}
+use Rattle.kernel_rules.proofs.refusals.refusal.Goals as goal
 
 pub returns-in-Kill : goal.returns-in-Kill
 returns-in-Kill c =

@@ -14,9 +14,9 @@ use Rattle.unix_calls.specs.declared.Reply.{Reply}
 use Rattle.unix_calls.specs.declared.Reply.TheVariants.{Fine, Number, Set, Child, Again, Refused, NoReply}
 use Rattle.unix_calls.specs.declared.Selector.{Selector}
 use Rattle.unix_calls.specs.Calls.{selector_of}
-use Rattle.kernel_model.specs.declared.rows.Row.{Row}
-use Rattle.kernel_model.specs.Rows.{row_of, row_named}
-use Rattle.kernel_model.specs.Refusals.{is_match, refusal}
+use Rattle.kernel_rules.specs.declared.rows.Row.{Row}
+use Rattle.kernel_rules.specs.Rows.{row_of, row_named}
+use Rattle.kernel_rules.specs.Refusals.{is_match, refusal}
 
 -- ---- plain replies
 abbrev pub is_fine : Reply → Bool

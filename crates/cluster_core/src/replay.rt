@@ -1,0 +1,24 @@
+// The run of a schedule on one node.
+ghost use Rattle.std.specs.Prelude.{◌≡◌, ◌≤◌, ◌↔◌, IfOk, IsTrue};
+ghost use Rattle.unix_calls.specs.Valid.{IsValid};
+ghost use Rattle.cluster_core.specs.Run.{run, IsQuiet, total_turns};
+
+use crate::outcome::Run;
+use crate::played::Played;
+use std::alloc::Global;
+use unix_calls::{Turn, World};
+use unix_names::NoMemory;
+
+/// Runs the turns of a schedule on the one node of a world, one after another.
+pub fn run(alloc: Global, world: &World, schedule: &[Turn]) -> Result<Run, NoMemory>
+{
+    let mut played = Played::first(alloc, world)?;
+    for turn in schedule {
+        played.turn(alloc, world, *turn)?;
+    }
+    let Played { machine, history } = played;
+    Ok(Run {
+        entries: history,
+        is_quiet: machine.ready.is_empty(),
+    })
+}
