@@ -24,7 +24,8 @@ use Rattle.kernel_rules.specs.Rows.{is_stopped, row_of}
 use Rattle.kernel_model.specs.Legal.{after_all, IsLegal}
 use Rattle.kernel_model.specs.Sound.{IsSound}
 use Rattle.cluster_core.specs.declared.machine.Machine.{Machine}
-use Rattle.cluster_core.specs.Run.{Played, is_stopped_phase}
+use Rattle.cluster_core.specs.declared.played.Played.{Played}
+use Rattle.cluster_core.specs.Run.{is_stopped_phase}
 
 -- ---- entries
 -- an exit alone has no reply
