@@ -5,3 +5,5 @@ pub mod Middles
 pub mod Places
 pub mod Names
 pub mod Chosen
+pub mod Progress
+pub mod Awake
