@@ -7,3 +7,4 @@ pub mod Names
 pub mod Chosen
 pub mod Progress
 pub mod Awake
+pub mod Placed
