@@ -8,3 +8,4 @@ pub mod Chosen
 pub mod Progress
 pub mod Awake
 pub mod Placed
+pub mod Committed
