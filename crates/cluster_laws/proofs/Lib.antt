@@ -9,3 +9,6 @@ pub mod Progress
 pub mod Awake
 pub mod Placed
 pub mod Committed
+pub mod Histories
+pub mod Played
+pub mod Turns
