@@ -12,3 +12,5 @@ pub mod Committed
 pub mod Histories
 pub mod Played
 pub mod Turns
+pub mod First
+pub mod Runs
