@@ -1,8 +1,7 @@
 -- a process to which something else happens than a stop, an end or a continuing is not stopped
-use Rattle.std.proofs.Common.{◌≡◌, ◌==◌, ◌&&◌, ◌||◌, ◌⊎◌, inl, inr, ℕ, Bool, true, false, cond, not, List, refl, sym, ap, ◌∙◌, subst, Option, None, Some}
+use Rattle.std.proofs.Common.{◌≡◌, ◌==◌, ◌&&◌, ◌||◌, inl, inr, Bool, true, false, cond, not, List, refl, sym, ap, ◌∙◌}
 use Rattle.std.proofs.lemmas.Bool.{and_parts, or_cases, eqb-true}
 use Rattle.unix_names.specs.declared.Life.{Life}
-use Rattle.unix_names.specs.declared.Life.TheVariants.{Runs, Stopped, Ended}
 use Rattle.unix_names.specs.declared.Signal.{Signal}
 use Rattle.unix_names.specs.declared.Signal.TheVariants.{Kill}
 use Rattle.unix_names.specs.Signals.{number_of}
@@ -10,9 +9,7 @@ use Rattle.unix_names.specs.Sets.{has, added, minus}
 use Rattle.unix_names.specs.States.{is_living}
 use Rattle.unix_names.proofs.SetLaws.{has-added, has-none}
 use Rattle.unix_names.proofs.SignalLaws.{number_of-distinct}
-use Rattle.unix_calls.specs.declared.Call.{Call}
 use Rattle.unix_calls.specs.declared.Call.TheVariants.{Exit}
-use Rattle.unix_calls.specs.declared.Event.{Event}
 use Rattle.unix_calls.specs.declared.Event.TheVariants.{Caught, Discarded, StoppedBy, EndedBy, Continued, Moved}
 use Rattle.unix_calls.specs.declared.Entry.{Entry}
 use Rattle.unix_calls.specs.declared.Entry.TheVariants.{Called, Happened}
@@ -20,7 +17,7 @@ use Rattle.signal_state.specs.Signals.{Signals, IsKept}
 use Rattle.signal_state.specs.Sig.{deliverable, is_dropped_by_default}
 use Rattle.kernel_rules.specs.declared.rows.Row.{Row}
 use Rattle.kernel_rules.specs.Rows.{is_stopped}
-use Rattle.kernel_rules.specs.Conditions.{can_call, is_deliverable, has_default_action, acts_by_default, is_spared, is_discarded, may_happen}
+use Rattle.kernel_rules.specs.Conditions.{can_call, is_deliverable, has_default_action, acts_by_default, is_spared, is_discarded}
 use Rattle.kernel_model.specs.declared.verdict.Verdict.TheVariants.{Legal}
 use Rattle.kernel_model.specs.Step.{row_verdict}
 use Rattle.kernel_laws.specs.Effects.{is_end}

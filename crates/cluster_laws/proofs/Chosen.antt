@@ -1,6 +1,5 @@
 -- what a process's turn commits is legal, is its next call where it is a call, and can stand in a history
-use Rattle.std.proofs.Common.{◌≡◌, ◌≢◌, ◌==◌, ◌<◌, ◌≤◌, ◌&&◌, ◌||◌, ℕ, Bool, true, false, cond, not, List, refl, sym, ap, ◌∙◌, subst, arith, Option, None, Some}
-use Rattle.std.specs.Prelude.{nat_le}
+use Rattle.std.proofs.Common.{◌≡◌, ◌==◌, ◌<◌, ◌≤◌, ◌&&◌, ◌||◌, ℕ, true, false, cond, not, List, refl, sym, ap, ◌∙◌, subst, arith, Option, None, Some}
 use Rattle.std.specs.List.{list_any}
 use Rattle.std.proofs.lemmas.Bool.{ne_eqb, le-leb}
 use Rattle.unix_names.specs.declared.Pid.{Pid}
@@ -20,7 +19,7 @@ use Rattle.unix_calls.specs.declared.Phase.{Phase}
 use Rattle.unix_calls.specs.declared.Phase.TheVariants as phases
 use Rattle.unix_calls.specs.declared.World.{World}
 use Rattle.unix_calls.specs.Calls.{HasNames}
-use Rattle.signal_state.specs.Sig.{deliverable, IsClear}
+use Rattle.signal_state.specs.Sig.{deliverable}
 use Rattle.list_laws.proofs.Elements.{any_none_found}
 use Rattle.proc_image.specs.declared.image.Image.{Image}
 use Rattle.proc_image.specs.Scripts.{next_call}
@@ -31,21 +30,20 @@ use Rattle.kernel_rules.specs.Rows.{is_stopped, row_of, AreDistinct}
 use Rattle.kernel_rules.specs.Refusals.{fork_refusal}
 use Rattle.kernel_rules.specs.Replies.{uses_number, is_fresh, allows}
 use Rattle.kernel_rules.specs.Conditions.{can_call, may_happen}
-use Rattle.kernel_model.specs.declared.verdict.Verdict.{Verdict}
 use Rattle.kernel_model.specs.declared.verdict.Verdict.TheVariants.{Legal, Illegal}
 use Rattle.kernel_model.specs.declared.verdict.Rule.TheVariants.{UnknownProcess, SignalFirst, WrongReply, WrongEvent}
 use Rattle.kernel_model.specs.Step.{call_verdict, event_verdict, row_verdict, process_of, verdict_at, verdict}
-use Rattle.kernel_model.specs.Sound.{IsSoundRow, IsSound}
+use Rattle.kernel_model.specs.Sound.{IsSound}
 use Rattle.kernel_laws.proofs.Rows.{number, distinct_from}
 use Rattle.kernel_laws.proofs.Forms.{ForksAs}
 use Rattle.list_laws.proofs.Filters.{some_same}
-use Rattle.kernel_choice.specs.Choice.{first_event, reply_of, answer_of, refused_or}
+use Rattle.kernel_choice.specs.Choice.{first_event, reply_of, refused_or}
 use Rattle.kernel_choice.specs.Laws.{is_exit}
 use Rattle.kernel_choice.proofs.EventLaws.{chosen_may_happen, none_where_clear}
 use Rattle.kernel_choice.proofs.ReplyLaws.{chosen_allowed, exit_alone}
 use Rattle.cluster_core.specs.Machine.{asked, happened_or, chosen}
 use Rattle.cluster_core.specs.Run.{is_stopped_phase}
-use Rattle.cluster_laws.specs.Stands.{HasOwnReply, IsWhole, IsGiven, AreGiven}
+use Rattle.cluster_laws.specs.Stands.{HasOwnReply, IsWhole, AreGiven}
 
 -- ---- jobs
 -- a job that a process can have where it stands

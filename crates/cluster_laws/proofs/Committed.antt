@@ -1,10 +1,8 @@
 -- what a turn commits keeps each process's image where it belongs
-use Rattle.std.proofs.Common.{◌≡◌, ◌==◌, ◌<◌, ◌≤◌, ◌⊎◌, inl, inr, ◌++◌, ℕ, suc, Bool, true, false, cond, List, [], ◌∷◌, refl, sym, ap, ◌∙◌, subst, arith, Option, None, Some, All, length}
+use Rattle.std.proofs.Common.{◌≡◌, ◌==◌, ◌<◌, ◌≤◌, inl, inr, ℕ, suc, true, false, List, refl, sym, ap, ◌∙◌, subst, arith, Option, None, Some, All, length}
 use Rattle.std.specs.Option.{option_map}
-use Rattle.std.specs.Prelude.{fold, is_some}
-use Rattle.std.proofs.lemmas.Bool.{ne_eqb, eq-eqb, eqb-true, eqb-false}
+use Rattle.std.proofs.lemmas.Bool.{ne_eqb}
 use Rattle.unix_names.specs.declared.Pid.{Pid}
-use Rattle.unix_names.specs.States.{is_living}
 use Rattle.unix_calls.specs.declared.Call.TheVariants.{Fork}
 use Rattle.unix_calls.specs.declared.Reply.TheVariants.{Number}
 use Rattle.unix_calls.specs.declared.Entry.{Entry}
@@ -13,7 +11,6 @@ use Rattle.unix_calls.specs.declared.Phase.TheVariants as phases
 use Rattle.unix_calls.specs.declared.World.{World}
 use Rattle.unix_calls.specs.Valid.{IsValid}
 use Rattle.ordered_table.specs.Entries.{value_at}
-use Rattle.list_laws.proofs.Filters.{some_same}
 use Rattle.list_laws.proofs.Finding.{same_number}
 use Rattle.proc_image.specs.declared.image.Image.{Image}
 use Rattle.proc_image.specs.Scripts.{nobody, next_child}
@@ -21,15 +18,14 @@ use Rattle.proc_image.specs.Follows.{Running, after_entry}
 use Rattle.proc_image.specs.Images.{progress_of, child_image}
 use Rattle.kernel_rules.specs.declared.rows.Row.{Row}
 use Rattle.kernel_rules.specs.Rows.{pid, row_of}
-use Rattle.kernel_model.specs.declared.verdict.Verdict.TheVariants.{Legal}
-use Rattle.kernel_model.specs.Step.{process_of, verdict, after, newborn}
+use Rattle.kernel_model.specs.Step.{process_of, after, newborn}
 use Rattle.kernel_model.specs.Sound.{IsSound}
 use Rattle.kernel_laws.specs.Effects.{IsForkOf}
 use Rattle.kernel_laws.proofs.Rows.{number, row_pid}
 use Rattle.kernel_laws.proofs.Legal.{after_is}
 use Rattle.kernel_laws.proofs.Forms.{ForksAs}
 use Rattle.cluster_core.specs.declared.machine.Machine.{Machine}
-use Rattle.cluster_core.specs.Machine.{told, born, with_image, stepped, stepped_by, serial_after, decided, nudged_all, phase_after, advanced, in_phase, image_after, placed, placed_image, committed}
+use Rattle.cluster_core.specs.Machine.{told, born, with_image, stepped, stepped_by, serial_after, decided, phase_after, advanced, in_phase, image_after, placed_image, committed}
 use Rattle.cluster_core.specs.Run.{is_stopped_phase}
 use Rattle.cluster_laws.specs.Stands.{queued_at, IsImageOf, IsOver, IsPlaced, AreGiven}
 use Rattle.cluster_laws.proofs.Lives.{keeps_life}
@@ -37,7 +33,7 @@ use Rattle.cluster_laws.proofs.Middles.{at-append_same}
 use Rattle.cluster_laws.proofs.Names.{HasChild, forks}
 use Rattle.cluster_laws.proofs.Chosen.{IsChosen, chosen_number}
 use Rattle.cluster_laws.proofs.Progress.{IsNoForkOf, progress_kept, progress_child}
-use Rattle.cluster_laws.proofs.Places.{HaveBut, AlsoOut, NoneOut, same_pid, said_so, add_queued, placed_on, none_placed, told_have}
+use Rattle.cluster_laws.proofs.Places.{HaveBut, AlsoOut, NoneOut, said_so, add_queued, placed_on, none_placed, told_have}
 use Rattle.cluster_laws.proofs.Placed.{Leaves, placed_have, advanced_pid, own_process, own_given, own_leaves}
 
 -- ---- forks

@@ -1,8 +1,7 @@
 -- a node stands before its first turn
-use Rattle.std.proofs.Common.{◌≡◌, ◌≢◌, ◌==◌, ◌<◌, ◌≤◌, ◌+◌, ◌*◌, ◌++◌, ℕ, zero, suc, Bool, true, false, cond, List, [], ◌∷◌, length, take, refl, sym, ap, ◌∙◌, subst, arith, Option, None, Some, All, length-set}
-use Rattle.std.specs.Prelude.{map, fold, replicate, slice_set, slice_get}
+use Rattle.std.proofs.Common.{◌≡◌, ◌==◌, ◌<◌, ◌≤◌, ◌+◌, ◌++◌, ℕ, zero, suc, Bool, true, false, cond, List, [], ◌∷◌, length, take, refl, sym, ap, ◌∙◌, subst, arith, Option, None, Some, All, length-set}
+use Rattle.std.specs.Prelude.{fold, replicate, slice_set, slice_get}
 use Rattle.std.specs.Option.{option_map, option_or}
-use Rattle.std.proofs.lemmas.Bool.{eqb-true}
 use Rattle.std.proofs.lemmas.Option.{slice_get_within}
 use Rattle.std.proofs.lemmas.List.{length-replicate, length-take-le}
 use Rattle.std.proofs.lemmas.List.Elements.{All-nil, All-set, All-replicate}
@@ -16,20 +15,18 @@ use Rattle.unix_calls.specs.declared.World.{World}
 use Rattle.unix_calls.specs.Valid.{IsStart, IsValid}
 use Rattle.list_laws.specs.Keyed.{at, Distinct, Each}
 use Rattle.list_laws.proofs.Elements.{each_head, each_rest}
-use Rattle.list_laws.proofs.Filters.{some_same}
-use Rattle.list_laws.proofs.Finding.{at-map, at-append, at-append_none, absent_differs, absent_rest, found, found_here, distinct-map}
-use Rattle.proc_image.specs.declared.image.Image.{Image}
-use Rattle.proc_image.specs.Scripts.{Progress, nobody}
-use Rattle.proc_image.specs.Follows.{first_vars, started, first_running}
+use Rattle.list_laws.proofs.Finding.{at-map, at-append, at-append_none, absent_differs, absent_rest, found, distinct-map}
+use Rattle.proc_image.specs.Scripts.{nobody}
+use Rattle.proc_image.specs.Follows.{started, first_running}
 use Rattle.proc_image.specs.Images.{start_image}
 use Rattle.kernel_rules.specs.declared.rows.Row.{Row}
 use Rattle.kernel_rules.specs.Rows.{is_stopped, row_of}
 use Rattle.kernel_model.specs.Legal.{first_row, booted, boot}
 use Rattle.kernel_laws.proofs.Rows.{number, row_pid, row_here}
 use Rattle.kernel_laws.proofs.Starts.{start_number, valid_pids}
-use Rattle.kernel_laws.proofs.Boot.{IsFirstRow, IsFirst, boot_first, boot_sound}
+use Rattle.kernel_laws.proofs.Boot.{boot_first, boot_sound}
 use Rattle.cluster_core.specs.Run.{first_machine}
-use Rattle.cluster_laws.specs.Stands.{IsWhole, HasPids, IsOver, image_number, queued_at, IsImageOf, IsPlaced, HaveImages, AreGiven, progress_after, Stands}
+use Rattle.cluster_laws.specs.Stands.{IsWhole, IsOver, image_number, IsImageOf, IsPlaced, HaveImages, AreGiven, progress_after}
 use Rattle.cluster_laws.proofs.Middles.{at-append_other, at-append_same}
 use Rattle.cluster_laws.proofs.Places.{same_pid, placed_as}
 use Rattle.cluster_laws.proofs.Played.{StandsBy}

@@ -1,34 +1,31 @@
 -- a legal step leaves a table whose numbers were given out, where a fork gives the next one
-use Rattle.std.proofs.Common.{◌≡◌, ◌≢◌, ◌==◌, ◌&&◌, ◌<◌, ◌≤◌, ◌⊎◌, inl, inr, ◌++◌, ℕ, suc, Bool, true, false, cond, List, [], ◌∷◌, refl, sym, ap, ◌∙◌, subst, arith, Option, None, Some}
-use Rattle.std.specs.Prelude.{map, filter, pos}
+use Rattle.std.proofs.Common.{◌≡◌, ◌==◌, ◌&&◌, ◌<◌, ◌≤◌, ◌⊎◌, inl, inr, ℕ, Bool, true, false, cond, List, [], refl, sym, ap, ◌∙◌, subst, arith, Option, None, Some}
 use Rattle.std.specs.List.{list_any}
-use Rattle.std.proofs.lemmas.Bool.{eqb-true, eq-eqb, and_parts}
+use Rattle.std.proofs.lemmas.Bool.{eqb-true, and_parts}
 use Rattle.unix_names.specs.declared.Pid.{Pid}
 use Rattle.unix_names.specs.Sets.{IsSignals}
 use Rattle.unix_names.specs.States.{is_living}
 use Rattle.unix_names.proofs.SetLaws.{IsSignals-none}
-use Rattle.unix_calls.specs.declared.Call.TheVariants.{Fork, Setpgid}
-use Rattle.unix_calls.specs.declared.Reply.TheVariants.{Number, Fine}
+use Rattle.unix_calls.specs.declared.Call.TheVariants.{Fork}
+use Rattle.unix_calls.specs.declared.Reply.TheVariants.{Number}
 use Rattle.unix_calls.specs.declared.Entry.{Entry}
-use Rattle.unix_calls.specs.declared.Entry.TheVariants.{Called, Happened}
-use Rattle.signal_state.specs.Sig.{generated_all}
+use Rattle.unix_calls.specs.declared.Entry.TheVariants.{Called}
 use Rattle.list_laws.proofs.Elements.{any_found}
-use Rattle.list_laws.proofs.Filters.{some_same}
 use Rattle.list_laws.proofs.Finding.{comes-append, comes-map}
 use Rattle.kernel_rules.specs.declared.rows.Row.{Row}
-use Rattle.kernel_rules.specs.Rows.{pid, is_pid, is_same, in_group, in_session, row_of, AreDistinct}
+use Rattle.kernel_rules.specs.Rows.{is_pid, is_same, in_group, in_session, row_of, AreDistinct}
 use Rattle.kernel_model.specs.declared.verdict.Verdict.TheVariants.{Legal}
 use Rattle.kernel_model.specs.Step.{process_of, verdict, after, sent, newborn, regrouped_at, leading_at, row_after}
 use Rattle.kernel_model.specs.Sound.{IsSound}
-use Rattle.kernel_laws.specs.Effects.{IsForkOf, IsSignalled, own_signals}
+use Rattle.kernel_laws.specs.Effects.{own_signals}
 use Rattle.kernel_laws.proofs.Rows.{number, distinct_from, row_pid, row_here, comes}
 use Rattle.kernel_laws.proofs.Legal.{actor, after_is}
 use Rattle.kernel_laws.proofs.Steps.{Regroups, free_target}
-use Rattle.kernel_laws.proofs.Forms.{ForksAs, RegroupsTo, Form, quiet, forked, regrouped, leading, step_form}
+use Rattle.kernel_laws.proofs.Forms.{ForksAs, Form, quiet, forked, regrouped, leading, step_form}
 use Rattle.kernel_laws.proofs.Others.{others_signalled}
 use Rattle.kernel_laws.proofs.Own.{own_signalled}
 use Rattle.cluster_core.specs.Machine.{serial_after}
-use Rattle.cluster_laws.specs.Stands.{IsGiven, AreGiven}
+use Rattle.cluster_laws.specs.Stands.{AreGiven}
 use Rattle.cluster_laws.proofs.Pending.{pending-generated_all, pending-own}
 
 -- the numbers of a row
@@ -75,8 +72,8 @@ form_numbered serial next rows r entry now distinct there le room given (forked 
     elim (comes-append number q.0 rows c (newborn r n) (ap (λ t. row_of t q) (sym is) ∙ e)) [
       | inl h ↦ more_given serial next c le (given q c h)
       | inr s ↦
-        let mine = more_given serial next r le (given r.pid r there) in
-        subst (IsNumbered next) (sym s.0) (record { pid = room n forks; group = mine.group; session = mine.session })
+          let mine = more_given serial next r le (given r.pid r there) in
+          subst (IsNumbered next) (sym s.0) (record { pid = room n forks; group = mine.group; session = mine.session })
     ]
 form_numbered serial next rows r entry now distinct there le room given (regrouped p g to t is) q c e =
     let m = comes-map number number (regrouped_at p g) (λ x. refl) q.0 rows c (ap (λ t. row_of t q) (sym is) ∙ e) in
@@ -144,6 +141,7 @@ module _ (serial : ℕ) (rows : List Row) (entry : Entry) (sound : IsSound rows)
       at_least : (x : Entry) → serial ≤ serial_after serial x
       at_least (Called p Fork (Number n)) = omega arith
       at_least _ = omega arith
+
       below : (x : Entry) → ((n : ℕ) → ForksAs x n → n ≡ serial) → (n : ℕ) → ForksAs x n → n < serial_after serial x
       below (Called p Fork (Number m)) is n forks = let e = is n forks in omega (arith, e)
       below _ is n forks = absurd forks

@@ -1,8 +1,7 @@
 -- which processes live after a legal step, and which are stopped
-use Rattle.std.proofs.Common.{◌≡◌, ◌==◌, ◌&&◌, ◌%◌, ℕ, ℤ, pos, negsuc, Bool, true, false, cond, not, List, [], ◌∷◌, refl, sym, ap, ◌∙◌, subst, Option, None, Some}
+use Rattle.std.proofs.Common.{◌≡◌, ◌==◌, ◌&&◌, ◌%◌, ℕ, ℤ, pos, negsuc, true, false, not, List, [], ◌∷◌, refl, sym, ap, ◌∙◌, Option, None, Some}
 use Rattle.std.specs.Prelude.{map}
 use Rattle.std.specs.Option.{option_or}
-use Rattle.std.proofs.lemmas.Bool.{eqb-true, eq-eqb}
 use Rattle.unix_names.specs.declared.Pid.{Pid}
 use Rattle.unix_names.specs.declared.Act.{Act}
 use Rattle.unix_names.specs.declared.Life.{Life}
@@ -35,7 +34,7 @@ use Rattle.kernel_model.specs.Step.{process_of, newborn, execed_at, is_ended_at,
 use Rattle.kernel_model.specs.Sound.{IsSound}
 use Rattle.kernel_laws.specs.Effects.{is_end, IsForkOf}
 use Rattle.kernel_laws.proofs.Rows.{number, row_pid, row_here, mapped_is, moved_is}
-use Rattle.kernel_laws.proofs.Ends.{after_end_of, ended_is}
+use Rattle.kernel_laws.proofs.Ends.{ended_is}
 use Rattle.kernel_laws.proofs.Legal.{actor, after_is}
 use Rattle.kernel_laws.proofs.Others.{others_signalled, first, came_received_at}
 use Rattle.kernel_laws.proofs.Coming.{living_stay, only_forks_add}

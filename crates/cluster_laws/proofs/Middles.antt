@@ -1,5 +1,5 @@
 -- a list with distinct keys, without one element of its middle
-use Rattle.std.proofs.Common.{◌≡◌, ◌==◌, ◌++◌, ℕ, Bool, true, false, cond, List, [], ◌∷◌, refl, sym, ap, ◌∙◌, Option, None, Some}
+use Rattle.std.proofs.Common.{◌≡◌, ◌==◌, ◌++◌, ℕ, true, false, cond, List, [], ◌∷◌, refl, ap, ◌∙◌, Option, None, Some}
 use Rattle.std.specs.Option.{option_or}
 use Rattle.list_laws.specs.Keyed.{at, Distinct}
 use Rattle.list_laws.proofs.Finding.{same_number, same_flip, absent_differs, absent_rest, at-append}

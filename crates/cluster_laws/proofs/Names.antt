@@ -1,26 +1,22 @@
 -- the numbers that a process names are pids, or less
-use Rattle.std.proofs.Common.{◌≡◌, ◌≤◌, ◌<◌, ℕ, zero, suc, ℤ, pos, negsuc, Bool, true, false, List, refl, sym, ap, ◌∙◌, subst, arith, Option, None, Some, All, slice_get, length, option_and_then}
-use Rattle.std.specs.Prelude.{◌≤ℤ◌, unwrap_or, T, nat_le, neg_ℤ, slice_set}
+use Rattle.std.proofs.Common.{◌≡◌, ◌≤◌, ◌<◌, ℕ, zero, suc, Bool, true, false, List, refl, sym, ap, subst, arith, Option, None, Some, All, slice_get, length, option_and_then}
+use Rattle.std.specs.Prelude.{unwrap_or, T, nat_le}
 use Rattle.std.specs.Int.Signed.{le_z_yes}
 use Rattle.std.proofs.lemmas.Bool.{le-leb}
 use Rattle.std.proofs.lemmas.List.Elements.{All-set}
 use Rattle.unix_names.specs.declared.Pid.{Pid}
 use Rattle.unix_calls.specs.declared.Arg.{Arg}
 use Rattle.unix_calls.specs.declared.Arg.TheVariants.{Zero, One, Nobody, Own, Maker, Var}
-use Rattle.unix_calls.specs.declared.Call.{Call}
 use Rattle.unix_calls.specs.declared.Call.TheVariants as calls
 use Rattle.unix_calls.specs.declared.Reply.{Reply}
 use Rattle.unix_calls.specs.declared.Reply.TheVariants.{Again}
 use Rattle.unix_calls.specs.declared.Statement.{Statement}
-use Rattle.unix_calls.specs.declared.Statement.TheVariants.{Fork, Exec, Exit, Wait, Kill, Setpgid}
+use Rattle.unix_calls.specs.declared.Statement.TheVariants.{Fork, Exec, Wait, Kill, Setpgid}
 use Rattle.unix_calls.specs.declared.World.{World}
 use Rattle.unix_calls.specs.Calls.{IsName, HasNames}
 use Rattle.unix_calls.specs.Valid.{IsValid}
-use Rattle.proc_image.specs.declared.image.Image.{Image}
 use Rattle.proc_image.specs.Scripts.{Progress, nobody, argument, signed, selected, call_of, call_or_exit, next_statement, next_call, after_wait, after_reply, after_reply_or_exit, moved_on, forked, forked_by, child_of, next_child}
-use Rattle.proc_image.specs.Images.{progress_of, moved_image}
 use Rattle.proc_image.proofs.Fits.{All-slice_get, next_statement-valid}
-use Rattle.cluster_laws.specs.Stands.{HasPids}
 
 -- the pids that a process has come to know are at most nobody's
 pub record KnowsPids (at : Progress) : Type 0 where

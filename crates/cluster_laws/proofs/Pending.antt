@@ -1,5 +1,5 @@
 -- pending sets are sets of signals, whatever is sent and done
-use Rattle.std.proofs.Common.{◌≡◌, ℕ, Bool, true, false, cond, List, [], ◌∷◌, ◌^◌, ◌-◌, Option, None, Some}
+use Rattle.std.proofs.Common.{ℕ, Bool, true, false, cond, List, [], ◌∷◌, ◌^◌, ◌-◌, Option, None, Some}
 use Rattle.unix_names.specs.declared.Act.{Act}
 use Rattle.unix_names.specs.declared.Act.TheVariants.{Default, Ignore, Catch}
 use Rattle.unix_names.specs.declared.Signal.{Signal}

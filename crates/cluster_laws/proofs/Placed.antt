@@ -1,5 +1,5 @@
 -- where a turn leaves its own image
-use Rattle.std.proofs.Common.{◌≡◌, ◌==◌, ◌<◌, ◌≤◌, ◌&&◌, inl, inr, ℕ, Bool, true, false, cond, List, refl, sym, ap, ◌∙◌, subst, arith, Option, None, Some, length}
+use Rattle.std.proofs.Common.{◌≡◌, ◌==◌, ◌<◌, ◌≤◌, ◌&&◌, ℕ, Bool, true, false, cond, List, refl, sym, ap, ◌∙◌, subst, arith, Option, None, Some}
 use Rattle.std.proofs.lemmas.Bool.{ne_eqb}
 use Rattle.unix_names.specs.declared.Pid.{Pid}
 use Rattle.unix_names.specs.States.{is_living}
@@ -16,15 +16,15 @@ use Rattle.unix_calls.specs.declared.World.{World}
 use Rattle.unix_calls.specs.Valid.{IsValid}
 use Rattle.list_laws.proofs.Filters.{some_same}
 use Rattle.proc_image.specs.declared.image.Image.{Image}
-use Rattle.proc_image.specs.Scripts.{Progress, nobody, next_call, stands_again, forked}
+use Rattle.proc_image.specs.Scripts.{nobody, stands_again, forked}
 use Rattle.proc_image.specs.Follows.{Running, after_entry}
-use Rattle.proc_image.specs.Images.{IsFit, progress_of, moved_image}
+use Rattle.proc_image.specs.Images.{IsFit, progress_of}
 use Rattle.proc_image.proofs.Fits.{IsFit-moved}
 use Rattle.kernel_rules.specs.declared.rows.Row.{Row}
 use Rattle.kernel_rules.specs.Rows.{is_pid, is_stopped, row_of}
 use Rattle.kernel_rules.specs.Refusals.{fork_refusal}
 use Rattle.kernel_model.specs.declared.verdict.Verdict.TheVariants.{Legal}
-use Rattle.kernel_model.specs.Step.{process_of, row_verdict, verdict, after}
+use Rattle.kernel_model.specs.Step.{process_of, row_verdict, after}
 use Rattle.kernel_model.specs.Sound.{IsSound}
 use Rattle.kernel_laws.specs.Effects.{is_end}
 use Rattle.kernel_laws.proofs.Rows.{row_pid}
@@ -35,7 +35,7 @@ use Rattle.cluster_core.specs.declared.machine.Machine.{Machine}
 use Rattle.cluster_core.specs.Machine.{phase_after_call, phase_after, advanced, in_phase, placed}
 use Rattle.cluster_core.specs.Run.{is_stopped_phase}
 use Rattle.cluster_laws.specs.Stands.{HasPids, IsImageOf, IsOver, AreGiven}
-use Rattle.cluster_laws.proofs.Lives.{life_after, own_life, end_over}
+use Rattle.cluster_laws.proofs.Lives.{own_life, end_over}
 use Rattle.cluster_laws.proofs.Places.{HaveBut, AlsoOut, add_queued, add_parked, add_nothing}
 use Rattle.cluster_laws.proofs.Names.{moved_knows}
 use Rattle.cluster_laws.proofs.Chosen.{Asked, IsChosen, chosen_number}

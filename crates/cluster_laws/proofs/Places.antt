@@ -1,5 +1,5 @@
 -- where images stand while one or two of them are taken out or not yet put in
-use Rattle.std.proofs.Common.{◌≡◌, ◌≢◌, ◌==◌, ◌⊎◌, inl, inr, ◌++◌, ℕ, Bool, true, false, cond, List, [], ◌∷◌, refl, sym, ap, ◌∙◌, subst, Option, None, Some}
+use Rattle.std.proofs.Common.{◌≡◌, ◌==◌, ◌⊎◌, inl, inr, ◌++◌, ℕ, Bool, true, false, List, [], ◌∷◌, refl, sym, ap, ◌∙◌, subst, Option, None, Some}
 use Rattle.std.specs.Prelude.{fold}
 use Rattle.std.proofs.lemmas.Bool.{eqb-true, eqb-false, eq-eqb, ne_eqb}
 use Rattle.unix_names.specs.declared.Pid.{Pid}
@@ -9,7 +9,7 @@ use Rattle.unix_calls.specs.declared.Phase.TheVariants as phases
 use Rattle.unix_calls.specs.declared.World.{World}
 use Rattle.ordered_table.specs.Entries.{IsRising, value_at, with_value, without}
 use Rattle.ordered_table.proofs.MapLaws.{put-same, put-other, IsRising-put, without-same, without-other, IsRising-without}
-use Rattle.list_laws.specs.Keyed.{at, Distinct}
+use Rattle.list_laws.specs.Keyed.{Distinct}
 use Rattle.list_laws.proofs.Finding.{at-append_none, distinct-append}
 use Rattle.proc_image.specs.declared.image.Image.{Image}
 use Rattle.proc_image.specs.Scripts.{Progress}
@@ -17,9 +17,9 @@ use Rattle.proc_image.specs.Follows.{Running}
 use Rattle.kernel_rules.specs.declared.rows.Row.{Row}
 use Rattle.kernel_rules.specs.Rows.{row_of, is_stopped}
 use Rattle.cluster_core.specs.declared.machine.Machine.{Machine}
-use Rattle.cluster_core.specs.Machine.{woken, woken_image, roused, nudged, Groups}
+use Rattle.cluster_core.specs.Machine.{woken, woken_image, roused, nudged}
 use Rattle.cluster_core.specs.Run.{is_stopped_phase}
-use Rattle.cluster_laws.specs.Stands.{image_number, queued_at, IsQueuedPhase, IsParkedPhase, IsImageOf, IsOver, IsPlaced, HaveImages}
+use Rattle.cluster_laws.specs.Stands.{image_number, queued_at, IsQueuedPhase, IsParkedPhase, IsImageOf, IsOver, IsPlaced}
 use Rattle.cluster_laws.proofs.Middles.{at-append_other, at-append_same, at-without, distinct-without, absent-without, at-middle}
 use Rattle.cluster_laws.proofs.Lives.{KeepsLife}
 

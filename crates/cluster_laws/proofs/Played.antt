@@ -1,9 +1,8 @@
 -- a turn leaves a node as it is to stand
-use Rattle.std.proofs.Common.{◌≡◌, ◌<◌, ◌≤◌, ◌+◌, ◌++◌, ℕ, suc, Bool, true, false, cond, List, [], ◌∷◌, length, refl, sym, ap, ◌∙◌, subst, arith, Option, None, Some, All, length-append}
+use Rattle.std.proofs.Common.{◌≡◌, ◌<◌, ◌≤◌, ◌+◌, ◌++◌, ℕ, suc, Bool, true, false, cond, List, [], ◌∷◌, length, refl, sym, ap, ◌∙◌, subst, arith, Option, None, Some, length-append}
 use Rattle.std.proofs.lemmas.List.Elements.{All-push}
 use Rattle.std.specs.Prelude.{is_some}
 use Rattle.unix_names.specs.declared.Pid.{Pid}
-use Rattle.unix_names.specs.States.{is_living}
 use Rattle.unix_calls.specs.declared.Entry.{Entry}
 use Rattle.unix_calls.specs.declared.Job.{Job}
 use Rattle.unix_calls.specs.declared.World.{World}
@@ -11,15 +10,15 @@ use Rattle.unix_calls.specs.Calls.{HasNames}
 use Rattle.unix_calls.specs.Valid.{IsValid}
 use Rattle.ordered_table.specs.Entries.{value_at}
 use Rattle.proc_image.specs.declared.image.Image.{Image}
-use Rattle.proc_image.specs.Scripts.{nobody, next_call}
-use Rattle.proc_image.specs.Follows.{Running, first_running, after_entry, after_entries, Follows}
+use Rattle.proc_image.specs.Scripts.{next_call}
+use Rattle.proc_image.specs.Follows.{Running, first_running, after_entry}
 use Rattle.proc_image.specs.Images.{progress_of}
 use Rattle.proc_image.proofs.FollowsLaws.{FollowsFrom-push, after_entries-push}
 use Rattle.kernel_rules.specs.declared.rows.Row.{Row}
-use Rattle.kernel_rules.specs.Rows.{is_stopped, row_of}
+use Rattle.kernel_rules.specs.Rows.{row_of}
 use Rattle.kernel_model.specs.declared.verdict.Verdict.TheVariants.{Legal}
 use Rattle.kernel_model.specs.Step.{verdict, after}
-use Rattle.kernel_model.specs.Legal.{boot, after_all, IsLegal}
+use Rattle.kernel_model.specs.Legal.{boot}
 use Rattle.kernel_model.specs.Sound.{IsSound}
 use Rattle.kernel_laws.proofs.Rows.{row_pid, row_here}
 use Rattle.kernel_laws.proofs.Steps.{step_keeps}
@@ -137,7 +136,7 @@ module _ (world : World) (valid : IsValid world) (p : Played) (stands : Stands w
   waiting_stands : chosen rows of.process serial job ≡ None → Stands world (record { machine = committed world image of.process None taken; history = p.history })
   waiting_stands none =
       let stopped = chosen_none world image rows of.process serial stands.sound here of.lives (stands.given image.pid of.process of.there).pending
-          (fresh_next serial rows stands.sound.distinct stands.given stands.least room) of.stopped job fits none in
+      (fresh_next serial rows stands.sound.distinct stands.given stands.least room) of.stopped job fits none in
       let now : Played = record { machine = committed world image of.process None taken; history = p.history } in
       let kept = waiting_have world running rows serial image of.process valid stands.sound stands.given room of.there of taken stopped have in
       record {

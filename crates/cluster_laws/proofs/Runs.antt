@@ -1,11 +1,7 @@
 -- each run of one node is legal, follows its scripts, and has the table of its history
-use Rattle.std.proofs.Common.{◌≡◌, ◌≤◌, ◌+◌, List, [], arith}
-use Rattle.unix_calls.specs.declared.Turn.{Turn}
-use Rattle.unix_calls.specs.declared.World.{World}
-use Rattle.cluster_core.specs.Run.{first_machine, run, total_turns}
-use Rattle.cluster_laws.specs.Stands.{Stands}
-use Rattle.cluster_laws.specs.Laws.{CanRun, RunsAreLegal, RunsFollow, RunsAreWhole, TablesAreAfterAll, RunsStand}
-use Rattle.cluster_laws.proofs.Played.{StandsBy}
+use Rattle.std.proofs.Common.{[], arith}
+use Rattle.cluster_core.specs.Run.{first_machine}
+use Rattle.cluster_laws.specs.Laws.{RunsAreLegal, RunsFollow, RunsAreWhole, TablesAreAfterAll, RunsStand}
 use Rattle.cluster_laws.proofs.Turns.{turns_stand}
 use Rattle.cluster_laws.proofs.First.{first_stands}
 
