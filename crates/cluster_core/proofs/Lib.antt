@@ -1,0 +1,5 @@
+pub mod GroupLaws
+pub mod ToldLaws
+pub mod MachineLaws
+pub mod FitLaws
+pub mod TurnLaws

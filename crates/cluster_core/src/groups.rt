@@ -36,6 +36,7 @@ fn put_members(groups: &mut Groups, group: Pid, members: Seq<Pid>) -> Result<(),
 }
 
 /// A process joins a group, as its last member.
+#[tactic(auto, using(crate::proofs::GroupLaws::with_value_again))]
 pub fn join(
     alloc: Global,
     groups: &mut Groups,
@@ -55,6 +56,7 @@ fn remove_member(members: &mut Seq<Pid>, pid: Pid)
     members.retain(|member| *member != pid);
 }
 
+#[tactic(auto, using(crate::proofs::GroupLaws::with_value_again))]
 fn leave(alloc: Global, groups: &mut Groups, group: Pid, pid: Pid) -> Result<(), NoMemory>
     ensures { OnOk result (groups.new ≡ left group pid groups.old) }
 {

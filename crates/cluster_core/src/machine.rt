@@ -88,6 +88,7 @@ impl Machine {
         }
     }
 
+    #[tactic(auto, using(crate::proofs::GroupLaws::without_absent))]
     /// Who is told goes to the end of the queue, where it slept or was stopped.
     fn nudge(&mut self, pid: Pid) -> Result<(), NoMemory>
         ensures { OnOk result (self.new ≡ nudged self.old pid) }

@@ -2,7 +2,7 @@
 ghost use Rattle.std.specs.Prelude.{◌≡◌, ◌+◌, ◌<◌, ◌≤◌, ◌^◌, IfOk, OnOk};
 ghost use Rattle.unix_calls.specs.Valid.{IsValid};
 ghost use Rattle.proc_image.specs.Images.{IsFit, JobHasNames};
-ghost use Rattle.cluster_core.specs.Commit.{AllFit, IsFirstMovable, HasOnlyStopped};
+ghost use Rattle.cluster_core.specs.Commit.{AllFit};
 ghost use Rattle.cluster_core.specs.Run.{first_machine, played, gone, pushed, gone_times, turned, turn_count};
 
 use crate::choice::chosen;
