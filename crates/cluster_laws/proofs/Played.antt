@@ -79,38 +79,38 @@ module _ (world : World) (valid : IsValid world) (p : Played) (stands : Stands w
   abbrev serial : ℕ
   serial = p.machine.serial
 
-  abbrev taken : Machine
+  abbrev pub taken : Machine
   taken = record p.machine { ready = before ++ later }
 
-  have : HaveBut world running rows serial (AlsoOut image.pid NoneOut) taken
-  have = take_queued world running rows serial p.machine (from_images world p stands) before image later ready
+  pub taken_have : HaveBut world running rows serial (AlsoOut image.pid NoneOut) taken
+  taken_have = take_queued world running rows serial p.machine (from_images world p stands) before image later ready
 
-  of : IsImageOf world (row_of rows image.pid) (running image.pid.0) image.pid image
-  of = (queued_one world running rows serial p.machine (from_images world p stands) before image later ready).2
+  pub taken_of : IsImageOf world (row_of rows image.pid) (running image.pid.0) image.pid image
+  taken_of = (queued_one world running rows serial p.machine (from_images world p stands) before image later ready).2
 
-  room : serial < 999999
-  room = let small = stands.few in omega (arith, small, few)
+  pub taken_room : serial < 999999
+  taken_room = let small = stands.few in omega (arith, small, few)
 
-  is_pid : of.process.pid ≡ image.pid
-  is_pid = row_pid rows image.pid of.process of.there
+  pub taken_pid : taken_of.process.pid ≡ image.pid
+  taken_pid = row_pid rows image.pid taken_of.process taken_of.there
 
-  here : row_of rows of.process.pid ≡ Some of.process
-  here = row_here rows image.pid of.process of.there
+  pub taken_here : row_of rows taken_of.process.pid ≡ Some taken_of.process
+  taken_here = row_here rows image.pid taken_of.process taken_of.there
 
-  names : HasNames (next_call world image.pid (progress_of image))
-  names =
-      let below = subst (λ (q : Pid). q.0 < serial) is_pid (stands.given image.pid of.process of.there).pid in
-      next_names world image.pid (progress_of image) (omega (arith, below, room)) (record { maker = of.pids.maker; vars = of.pids.vars })
+  pub taken_names : HasNames (next_call world image.pid (progress_of image))
+  taken_names =
+      let below = subst (λ (q : Pid). q.0 < serial) taken_pid (stands.given image.pid taken_of.process taken_of.there).pid in
+      next_names world image.pid (progress_of image) (omega (arith, below, taken_room)) (record { maker = taken_of.pids.maker; vars = taken_of.pids.vars })
 
-  chosen_of : (entry : Entry) → chosen rows of.process serial job ≡ Some entry → IsChosen world image rows of.process serial entry
-  chosen_of entry e = chosen_is world image rows of.process serial stands.sound here of.lives (stands.given image.pid of.process of.there).pending
-      (fresh_next serial rows stands.sound.distinct stands.given stands.least room) of.stopped job entry fits e
+  pub taken_chosen : (entry : Entry) → chosen rows taken_of.process serial job ≡ Some entry → IsChosen world image rows taken_of.process serial entry
+  taken_chosen entry e = chosen_is world image rows taken_of.process serial stands.sound taken_here taken_of.lives (stands.given image.pid taken_of.process taken_of.there).pending
+      (fresh_next serial rows stands.sound.distinct stands.given stands.least taken_room) taken_of.stopped job entry fits e
 
   -- it commits an entry
-  entry_stands : (entry : Entry) → IsChosen world image rows of.process serial entry → Stands world (record { machine = committed world image of.process (Some entry) taken; history = p.history ++ entry ∷ [] })
+  pub entry_stands : (entry : Entry) → IsChosen world image rows taken_of.process serial entry → Stands world (record { machine = committed world image taken_of.process (Some entry) taken; history = p.history ++ entry ∷ [] })
   entry_stands entry is =
-      let now : Played = record { machine = committed world image of.process (Some entry) taken; history = p.history ++ entry ∷ [] } in
-      let d = committed_have world running rows serial image of.process valid stands.sound stands.given room of.there of entry taken is have in
+      let now : Played = record { machine = committed world image taken_of.process (Some entry) taken; history = p.history ++ entry ∷ [] } in
+      let d = committed_have world running rows serial image taken_of.process valid stands.sound stands.given taken_room taken_of.there taken_of entry taken is taken_have in
       let far : progress_after world (p.history ++ entry ∷ []) ≡ after_entry world running entry = after_entries-push world (first_running world) p.history entry in
       let kept = subst (λ f. HaveBut world f (after rows entry) (serial_after serial entry) NoneOut now.machine) (sym far) d in
       let small = stands.few in
@@ -123,22 +123,22 @@ module _ (world : World) (valid : IsValid world) (p : Played) (stands : Stands w
         sound = subst IsSound (sym kept.kernel) (step_keeps rows entry stands.sound is.legal);
         legal = legal-push (boot world) p.history entry stands.legal (subst (λ t. verdict t entry ≡ Legal) stands.table is.legal);
         follows = FollowsFrom-push world (first_running world) p.history entry stands.follows
-            (chosen_order world image rows of.process serial running entry (sym is_pid) (ap (λ (q : Pid). running q.0) is_pid ∙ of.progress) is);
-        whole = All-push IsWhole p.history entry stands.whole (chosen_whole world image rows of.process serial entry names is);
+            (chosen_order world image rows taken_of.process serial running entry (sym taken_pid) (ap (λ (q : Pid). running q.0) taken_pid ∙ taken_of.progress) is);
+        whole = All-push IsWhole p.history entry stands.whole (chosen_whole world image rows taken_of.process serial entry taken_names is);
         images = to_images world now (after rows entry) (serial_after serial entry) kept;
         given = subst (λ k. AreGiven now.machine.serial k) (sym kept.kernel) (subst (λ n. AreGiven n (after rows entry)) (sym kept.next)
-            (given_kept serial rows entry stands.sound is.legal stands.given (chosen_number world image rows of.process serial entry is)));
+            (given_kept serial rows entry stands.sound is.legal stands.given (chosen_number world image rows taken_of.process serial entry is)));
         least = subst (λ n. 2 ≤ n) (sym kept.next) (omega (arith, least, up));
         few = subst (λ n. n ≤ 66 + length (p.history ++ entry ∷ [])) (sym kept.next) (omega (arith, small, most, longer));
       }
 
   -- it commits nothing
-  waiting_stands : chosen rows of.process serial job ≡ None → Stands world (record { machine = committed world image of.process None taken; history = p.history })
+  pub waiting_stands : chosen rows taken_of.process serial job ≡ None → Stands world (record { machine = committed world image taken_of.process None taken; history = p.history })
   waiting_stands none =
-      let stopped = chosen_none world image rows of.process serial stands.sound here of.lives (stands.given image.pid of.process of.there).pending
-      (fresh_next serial rows stands.sound.distinct stands.given stands.least room) of.stopped job fits none in
-      let now : Played = record { machine = committed world image of.process None taken; history = p.history } in
-      let kept = waiting_have world running rows serial image of.process valid stands.sound stands.given room of.there of taken stopped have in
+      let stopped = chosen_none world image rows taken_of.process serial stands.sound taken_here taken_of.lives (stands.given image.pid taken_of.process taken_of.there).pending
+      (fresh_next serial rows stands.sound.distinct stands.given stands.least taken_room) taken_of.stopped job fits none in
+      let now : Played = record { machine = committed world image taken_of.process None taken; history = p.history } in
+      let kept = waiting_have world running rows serial image taken_of.process valid stands.sound stands.given taken_room taken_of.there taken_of taken stopped taken_have in
       record {
         table = kept.kernel ∙ stands.table;
         sound = subst IsSound (sym kept.kernel) stands.sound;
@@ -151,9 +151,9 @@ module _ (world : World) (valid : IsValid world) (p : Played) (stands : Stands w
         few = subst (λ n. n ≤ 66 + length p.history) (sym kept.next) stands.few;
       }
 
-  by_choice : (o : Option Entry) → chosen rows of.process serial job ≡ o → StandsBy world (suc (length p.history)) (record { machine = committed world image of.process o taken; history = with_entry p.history o })
+  by_choice : (o : Option Entry) → chosen rows taken_of.process serial job ≡ o → StandsBy world (suc (length p.history)) (record { machine = committed world image taken_of.process o taken; history = with_entry p.history o })
   by_choice None e = record { stands = waiting_stands e; entries = omega arith }
-  by_choice (Some entry) e = let longer = length-append p.history (entry ∷ []) in record { stands = entry_stands entry (chosen_of entry e); entries = omega (arith, longer) }
+  by_choice (Some entry) e = let longer = length-append p.history (entry ∷ []) in record { stands = entry_stands entry (taken_chosen entry e); entries = omega (arith, longer) }
 
   pub played_stands : StandsBy world (suc (length p.history)) (played world image job (before ++ later) p)
-  played_stands = subst (λ o. StandsBy world (suc (length p.history)) (played_by world image job o taken p.history)) (sym of.there) (by_choice (chosen rows of.process serial job) refl)
+  played_stands = subst (λ o. StandsBy world (suc (length p.history)) (played_by world image job o taken p.history)) (sym taken_of.there) (by_choice (chosen rows taken_of.process serial job) refl)
