@@ -1,10 +1,12 @@
 -- the images of a node fit their world after every turn, and a turn gives out at most one pid
-use Rattle.std.proofs.Common.{◌≡◌, ◌∙◌, ◌+◌, ◌<◌, ◌≤◌, ◌==◌, ℕ, zero, suc, nat_lt, Bool, true, false, List, [], ◌∷◌, ◌++◌, All, IfSome, length, fold, Option, None, Some, is_some, if◌then◌else◌, option_map, option_and_then, slice_get, slice_set, replicate, map, not, cond, length-set, length-replicate, refl, sym, subst, arith}
+use Rattle.std.proofs.Common.{◌≡◌, ◌∙◌, ◌+◌, ◌<◌, ◌≤◌, ◌==◌, ℕ, zero, suc, nat_lt, Bool, true, false, List, [], ◌∷◌, ◌++◌, All, IfSome, length, fold, Option, None, Some, is_some, if◌then◌else◌, option_map, option_and_then, slice_get, slice_set, replicate, map, not, cond, length-set, refl, sym, subst, arith}
+use Rattle.std.proofs.lemmas.List.{length-replicate}
 use Rattle.std.proofs.lemmas.List.Elements.{All-nil, All-cons, All-head, All-tail, All-push, All-append}
 use Rattle.unix_names.specs.declared.Pid.{Pid}
 use Rattle.unix_calls.specs.declared.Entry.{Entry}
 use Rattle.unix_calls.specs.declared.Entry.TheVariants.{Called, Happened}
 use Rattle.unix_calls.specs.declared.Job.{Job}
+use Rattle.unix_calls.specs.declared.Job.TheVariants.{Push as PushJob}
 use Rattle.unix_calls.specs.declared.Phase.{Phase}
 use Rattle.unix_calls.specs.declared.Phase.TheVariants as phases
 use Rattle.unix_calls.specs.declared.Statement.{Statement}
@@ -179,10 +181,10 @@ gone-kept world p valid fits = gone_from-kept world p.machine.ready p valid fits
 
 pushed_by-kept : (world : World) (before : List Image) (image : Image) (rest : List Image) (p : Played) (b : Bool) → IsValid world → All (IsFit world) before → All (IsFit world) (image ∷ rest) → AllFit world p.machine →
     IsKept world 1 p (pushed_from world (before ++ image ∷ []) rest p) →
-    IsKept world 1 p (if b then pushed_from world (before ++ image ∷ []) rest p else played world image (Rattle.unix_calls.specs.declared.Job.TheVariants.Push (record { 0 = 0 })) (before ++ rest) p)
+    IsKept world 1 p (if b then pushed_from world (before ++ image ∷ []) rest p else played world image (PushJob (record { 0 = 0 })) (before ++ rest) p)
 pushed_by-kept world before image rest p true valid first all fits later = later
 pushed_by-kept world before image rest p false valid first all fits later =
-    kept_played world image _ (before ++ rest) p valid (All-head (IsFit world) image rest all) (All-append (IsFit world) before rest first (All-tail (IsFit world) image rest all)) fits
+    kept_played world image (PushJob (record { 0 = 0 })) (before ++ rest) p valid (All-head (IsFit world) image rest all) (All-append (IsFit world) before rest first (All-tail (IsFit world) image rest all)) fits
 
 pushed_from-kept : (world : World) (before images : List Image) (p : Played) → IsValid world → All (IsFit world) before → All (IsFit world) images → AllFit world p.machine → IsKept world 1 p (pushed_from world before images p)
 pushed_from-kept world before [] p valid first all fits = kept_still world 1 p fits

@@ -48,6 +48,18 @@ pub fn chosen(rows: &[Row], row: &Row, serial: u32, job: &Job) -> Option<Entry>
 pub fn record(history: &mut Seq<Entry>, entry: &Entry) -> Result<(), NoMemory>
     ensures { OnOk result (history.new ≡ history.old ++ entry.now ∷ []) }
 {
-    history.push(*entry)?;
+    // Form by form, so that the checker sees the types that an entry holds.
+    match *entry {
+        Entry::Called {
+            caller,
+            call,
+            reply,
+        } => history.push(Entry::Called {
+            caller,
+            call,
+            reply,
+        })?,
+        Entry::Happened { pid, event } => history.push(Entry::Happened { pid, event })?,
+    }
     Ok(())
 }
