@@ -3,3 +3,4 @@ pub mod ToldLaws
 pub mod MachineLaws
 pub mod FitLaws
 pub mod TurnLaws
+pub mod RunLaws

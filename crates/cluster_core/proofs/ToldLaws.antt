@@ -1,7 +1,8 @@
 -- who is told of an end: the groups that it leaves are among those that it may leave
-use Rattle.std.proofs.Common.{◌≡◌, ◌∙◌, ◌&&◌, ◌||◌, not, Bool, true, false, cond, List, [], ◌∷◌, ◌++◌, filter, Option, None, Some, ◌%◌, refl, sym, ap}
+use Rattle.std.proofs.Common.{◌≡◌, ◌∙◌, ◌&&◌, ◌||◌, not, Bool, true, false, cond, ℕ, ◌+◌, ◌<◌, List, [], ◌∷◌, ◌++◌, filter, take, length, get_or, Option, None, Some, ◌%◌, refl, sym, ap}
 use Rattle.std.specs.List.{list_any, flat_map}
-use Rattle.std.proofs.lemmas.List.{append-nil}
+use Rattle.std.proofs.lemmas.List.{append-nil, length-map, get_or-map}
+use Rattle.std.proofs.lemmas.List.Elements.{filter_more}
 use Rattle.unix_names.specs.declared.Pid.{Pid}
 use Rattle.unix_names.specs.declared.WaitStatus.{WaitStatus}
 use Rattle.unix_names.specs.declared.WaitStatus.TheVariants.{Exited, Killed}
@@ -10,6 +11,7 @@ use Rattle.unix_calls.specs.declared.Event.TheVariants.{StoppedBy, EndedBy, Cont
 use Rattle.unix_calls.specs.declared.Entry.{Entry}
 use Rattle.unix_calls.specs.declared.Entry.TheVariants.{Called, Happened}
 use Rattle.unix_calls.specs.Calls.{target_of}
+use Rattle.ordered_table.specs.declared.entries.Entry.{Entry as Valued}
 use Rattle.ordered_table.specs.Entries.{pids_of}
 use Rattle.kernel_rules.specs.declared.rows.Row.{Row}
 use Rattle.kernel_rules.specs.Rows.{in_group, is_stopped, row_of}
@@ -39,6 +41,13 @@ two_filters p q r same (x ∷ xs) = two_step q x (filter r xs) (filter p xs) (p 
 filter_none : {X : Type 0} (p : X → Bool) → ((x : X) → p x ≡ false) → (xs : List X) → filter p xs ≡ []
 filter_none p none [] = refl
 filter_none p none (x ∷ xs) = rw (none x, filter_none p none xs) refl
+
+-- one entry more whose id is kept or not
+pub pids_item : {T : Type 0} (p : Pid → Bool) (es : List (Valued T)) (i : ℕ) (e : Valued T) → i < length es → e ≡ get_or es i e →
+    filter p (take (i + 1) (pids_of es)) ≡ filter p (take i (pids_of es)) ++ cond (p e.pid) (e.pid ∷ []) []
+pids_item {T} p es i e within is =
+    let here : get_or (pids_of es) i e.pid ≡ e.pid = get_or-map (λ (x : Valued T). x.pid) es i e e.pid within ∙ ap (λ (x : Valued T). x.pid) (sym is) in
+    filter_more p (pids_of es) i e.pid (rw length-map within) ∙ ap (λ q. filter p (take i (pids_of es)) ++ cond (p q) (q ∷ []) []) here
 
 -- ---- stopped members
 stopped_step : (here stopped rest others : Bool) → (stopped || rest) ≡ false → (rest ≡ false → others ≡ false) → ((here && stopped) || others) ≡ false

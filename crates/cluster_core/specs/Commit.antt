@@ -1,5 +1,5 @@
--- What the code of a turn goes through: who is told without the groups that an end leaves, and which groups that may be.
-use Rattle.std.specs.Prelude.{Bool, true, false, if◌then◌else◌, List, [], ◌∷◌, filter, All}
+-- What the code of a turn goes through: who is told without the groups that an end leaves, which groups that may be, and which image a push moves.
+use Rattle.std.specs.Prelude.{Bool, true, false, not, if◌then◌else◌, List, [], ◌∷◌, filter, find, Option, All}
 use Rattle.unix_names.specs.declared.Pid.{Pid}
 use Rattle.unix_calls.specs.declared.Call.{Call}
 use Rattle.unix_calls.specs.declared.Call.TheVariants.{Exit, Kill, Setpgid, Setsid}
@@ -17,6 +17,7 @@ use Rattle.kernel_rules.specs.declared.rows.Row.{Row}
 use Rattle.kernel_rules.specs.Rows.{is_stopped}
 use Rattle.kernel_model.specs.Changes.{is_at_risk}
 use Rattle.cluster_core.specs.declared.machine.Machine.{Machine}
+use Rattle.cluster_core.specs.Run.{is_stopped_phase}
 use Rattle.cluster_core.specs.Machine.{Groups, members_of, others, told_of_kill_call, told_of_setpgid, told_of_setsid}
 
 -- the process of the row is stopped
@@ -67,3 +68,15 @@ risked before entry groups = if is_end entry then filter (is_at_risk before) (pi
 pub record AllFit (world : World) (m : Machine) : Type 0 where
   pub ready : All (IsFit world) m.ready
   pub parked : All (λ e. IsFit world e.value) m.parked
+
+abbrev pub is_movable : Image → Bool
+is_movable image = not (is_stopped_phase image.phase)
+
+-- the first image of the queue that is not stopped
+abbrev pub first_movable : List Image → Option Image
+first_movable images = find is_movable images
+
+-- the queue without it
+abbrev pub without_movable : List Image → List Image
+without_movable [] = []
+without_movable (image ∷ rest) = if is_stopped_phase image.phase then image ∷ without_movable rest else rest

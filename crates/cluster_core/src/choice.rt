@@ -1,5 +1,5 @@
 // What a process commits in its turn.
-ghost use Rattle.std.specs.Prelude.{◌≡◌, IfSome};
+ghost use Rattle.std.specs.Prelude.{◌≡◌, ◌++◌, ◌∷◌, [], IfSome, OnOk};
 ghost use Rattle.unix_calls.specs.Calls.{EntryHasNames};
 ghost use Rattle.proc_image.specs.Images.{JobHasNames};
 ghost use Rattle.cluster_core.specs.Machine.{asked, chosen};
@@ -7,7 +7,7 @@ ghost use Rattle.cluster_core.specs.Machine.{asked, chosen};
 use kernel_choice::{first_event, reply_of};
 use kernel_rules::Row;
 use unix_calls::{Entry, Event, Job};
-use unix_names::Pid;
+use unix_names::{NoMemory, Pid, Seq};
 
 /// The entry of a job: its call with the one reply, or that it is moved. None for a look at the signals.
 fn asked(rows: &[Row], row: &Row, serial: u32, job: &Job) -> Option<Entry>
@@ -42,4 +42,24 @@ pub fn chosen(rows: &[Row], row: &Row, serial: u32, job: &Job) -> Option<Entry>
         }),
         None => asked(rows, row, serial, job),
     }
+}
+
+/// Adds an entry to a history.
+pub fn record(history: &mut Seq<Entry>, entry: &Entry) -> Result<(), NoMemory>
+    ensures { OnOk result (history.new ≡ history.old ++ entry.now ∷ []) }
+{
+    // Form by form, so that the checker sees the types that an entry holds.
+    match *entry {
+        Entry::Called {
+            caller,
+            call,
+            reply,
+        } => history.push(Entry::Called {
+            caller,
+            call,
+            reply,
+        })?,
+        Entry::Happened { pid, event } => history.push(Entry::Happened { pid, event })?,
+    }
+    Ok(())
 }

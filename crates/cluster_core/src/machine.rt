@@ -3,7 +3,7 @@ ghost use Rattle.std.specs.Prelude.{◌≡◌, ◌+◌, ◌<◌, ◌^◌, fold, 
 ghost use Rattle.unix_calls.specs.Calls.{EntryHasNames};
 ghost use Rattle.unix_calls.specs.Valid.{IsValid};
 ghost use Rattle.proc_image.specs.Images.{IsFit};
-ghost use Rattle.cluster_core.specs.Machine.{stepped, serial_after, decided, nudged, placed_image, with_image, committed};
+ghost use Rattle.cluster_core.specs.Machine.{stepped, serial_after, decided, nudged, placed_image, with_image, told, committed};
 
 use crate::groups::{Groups, change_groups};
 use crate::images::{advance, born, woken};
@@ -109,6 +109,21 @@ impl Machine {
         Ok(())
     }
 
+    /// The table, the groups and the next pid change as an entry of the process of a row says. Gives all that are told of it, in order.
+    fn enter(&mut self, alloc: Global, row: &Row, entry: &Entry) -> Result<Seq<Pid>, NoMemory>
+        requires names { EntryHasNames entry.now }
+        requires room { self.old.serial + 1 < 2 ^ 32 }
+        ensures machine { OnOk result (self.new ≡ decided row.now entry.now self.old) }
+        ensures told { IfOk result (λ pids. pids ≡ told self.old.kernel self.new.kernel row.now entry.now self.new.groups) }
+    {
+        let mut told = told_first(alloc, self.kernel.rows(), row, entry, &self.groups)?;
+        let mut left = risked(alloc, self.kernel.rows(), entry, &self.groups)?;
+        self.decide(alloc, row, entry)?;
+        keep_left(&mut left, self.kernel.rows());
+        add_all_members(&mut told, &self.groups, left.as_slice(), row.pid)?;
+        Ok(told)
+    }
+
     /// The turn of a process whose image has left the queue, where it commits an entry.
     pub fn commit(
         &mut self,
@@ -125,11 +140,7 @@ impl Machine {
         ensures { OnOk result (self.new ≡ committed world.now image row.now (Some entry.now) self.old) }
     {
         let child = born(alloc, world, &image, entry)?;
-        let mut told = told_first(alloc, self.kernel.rows(), row, entry, &self.groups)?;
-        let mut left = risked(alloc, self.kernel.rows(), entry, &self.groups)?;
-        self.decide(alloc, row, entry)?;
-        keep_left(&mut left, self.kernel.rows());
-        add_all_members(&mut told, &self.groups, left.as_slice(), row.pid)?;
+        let told = self.enter(alloc, row, entry)?;
         advance(world, &mut image, entry);
         self.place(image)?;
         self.add_child(child)?;

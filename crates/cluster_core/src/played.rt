@@ -1,11 +1,11 @@
 // A node with what it has committed so far, and its turns.
-ghost use Rattle.std.specs.Prelude.{◌≡◌, ◌+◌, ◌<◌, ◌≤◌, ◌^◌, IfOk, OnOk};
+ghost use Rattle.std.specs.Prelude.{◌≡◌, ◌+◌, ◌<◌, ◌^◌, ◌++◌, [], map, IfOk, OnOk};
 ghost use Rattle.unix_calls.specs.Valid.{IsValid};
-ghost use Rattle.proc_image.specs.Images.{IsFit, JobHasNames};
-ghost use Rattle.cluster_core.specs.Commit.{AllFit};
-ghost use Rattle.cluster_core.specs.Run.{first_machine, played, gone, pushed, gone_times, turned, turn_count};
+ghost use Rattle.proc_image.specs.Images.{IsFit, JobHasNames, start_image};
+ghost use Rattle.cluster_core.specs.Commit.{AllFit, first_movable, without_movable};
+ghost use Rattle.cluster_core.specs.Run.{first_machine, is_stopped_phase, played, gone, pushed, gone_times, turned, turn_count};
 
-use crate::choice::chosen;
+use crate::choice::{chosen, record};
 use crate::groups::first_groups;
 use crate::machine::Machine;
 use kernel_model::Kernel;
@@ -24,8 +24,10 @@ pub struct Played {
 }
 
 /// The images of the starts, in their order.
+#[tactic(auto, using(crate::proofs::TurnLaws::map_item))]
 fn first_images(alloc: Global, world: &World) -> Result<Queue<Image>, NoMemory>
     requires { IsValid world.now }
+    ensures { IfOk result (λ ready. ready ≡ map (start_image world.now) world.now.starts) }
 {
     let mut ready = Queue::new(alloc);
     for k in 0..world.starts.len() {
@@ -37,25 +39,16 @@ fn first_images(alloc: Global, world: &World) -> Result<Queue<Image>, NoMemory>
     Ok(ready)
 }
 
-/// The first image of the queue that is not stopped leaves it; the others keep their order.
-fn take_movable(alloc: Global, ready: &mut Queue<Image>) -> Result<Option<Image>, NoMemory>
+fn is_stopped(phase: Phase) -> bool
+    ensures { result ≡ is_stopped_phase phase }
 {
-    let mut before = Queue::new(alloc);
-    while let Some(image) = ready.pop() {
-        if image.phase != Phase::Stopped {
-            put_back(ready, before)?;
-            return Ok(Some(image));
-        }
-        if before.push(image).is_err() {
-            return Err(NoMemory);
-        }
-    }
-    put_back(ready, before)?;
-    Ok(None)
+    matches!(phase, Phase::Stopped)
 }
 
 /// Puts images before those of the queue.
-fn put_back(ready: &mut Queue<Image>, mut before: Queue<Image>) -> Result<(), NoMemory> {
+fn put_back(ready: &mut Queue<Image>, mut before: Queue<Image>) -> Result<(), NoMemory>
+    ensures { OnOk result (ready.new ≡ before ++ ready.old) }
+{
     if before.is_empty() {
         return Ok(());
     }
@@ -68,10 +61,31 @@ fn put_back(ready: &mut Queue<Image>, mut before: Queue<Image>) -> Result<(), No
     Ok(())
 }
 
+/// The first image of the queue that is not stopped leaves it; the others keep their order.
+fn take_movable(alloc: Global, ready: &mut Queue<Image>) -> Result<Option<Image>, NoMemory>
+    ensures first { IfOk result (λ image. image ≡ first_movable ready.old) }
+    ensures rest { OnOk result (ready.new ≡ without_movable ready.old) }
+{
+    let mut before = Queue::new(alloc);
+    while let Some(image) = ready.pop() {
+        if !is_stopped(image.phase) {
+            put_back(ready, before)?;
+            return Ok(Some(image));
+        }
+        if before.push(image).is_err() {
+            return Err(NoMemory);
+        }
+    }
+    put_back(ready, before)?;
+    Ok(None)
+}
+
 impl Played {
     /// The node before the first turn.
     pub fn first(alloc: Global, world: &World) -> Result<Played, NoMemory>
         requires { IsValid world.now }
+        ensures machine { IfOk result (λ played. played.machine ≡ first_machine world.now) }
+        ensures history { IfOk result (λ played. played.history ≡ []) }
     {
         let kernel = Kernel::boot(alloc, world)?;
         let groups = first_groups(alloc, kernel.rows())?;
@@ -96,16 +110,19 @@ impl Played {
         mut image: Image,
         job: &Job,
     ) -> Result<(), NoMemory>
+        requires valid { IsValid world.now }
+        requires fits { IsFit world.now image }
+        requires names { JobHasNames job.now }
+        requires room { self.old.machine.serial + 1 < 2 ^ 32 }
+        ensures { OnOk result (self.new ≡ played world.now image job.now self.old.machine.ready self.old) }
     {
         let Some(row) = find_row(self.machine.kernel.rows(), image.pid) else {
             return Ok(());
         };
-        let entry = chosen(self.machine.kernel.rows(), &row, self.machine.serial, job);
-        match entry {
+        match chosen(self.machine.kernel.rows(), &row, self.machine.serial, job) {
             Some(entry) => {
                 self.machine.commit(alloc, world, image, &row, &entry)?;
-                self.history.push(entry)?;
-                Ok(())
+                record(&mut self.history, &entry)
             }
             None => {
                 image.phase = Phase::Stopped;
@@ -116,6 +133,10 @@ impl Played {
 
     /// The first of the queue has its turn. Nothing is done where the queue is empty.
     fn go(&mut self, alloc: Global, world: &World) -> Result<(), NoMemory>
+        requires valid { IsValid world.now }
+        requires fits { AllFit world.now self.old.machine }
+        requires room { self.old.machine.serial + 1 < 2 ^ 32 }
+        ensures { OnOk result (self.new ≡ gone world.now self.old) }
     {
         let Some(image) = self.machine.ready.pop() else {
             return Ok(());
@@ -126,18 +147,29 @@ impl Played {
 
     /// The first of the queue that is not stopped is moved. Nothing is done where there is none.
     fn push(&mut self, alloc: Global, world: &World) -> Result<(), NoMemory>
+        requires valid { IsValid world.now }
+        requires fits { AllFit world.now self.old.machine }
+        requires room { self.old.machine.serial + 1 < 2 ^ 32 }
+        ensures { OnOk result (self.new ≡ pushed world.now self.old) }
     {
-        let Some(image) = take_movable(alloc, &mut self.machine.ready)? else {
-            return Ok(());
-        };
-        self.play(alloc, world, image, &Job::Push(NodeId(0)))
+        match take_movable(alloc, &mut self.machine.ready)? {
+            Some(image) => self.play(alloc, world, image, &Job::Push(NodeId(0))),
+            None => Ok(()),
+        }
     }
 
     /// So many turns of the first of the queue. It ends early where the queue is empty.
     fn go_times(&mut self, alloc: Global, world: &World, count: u32) -> Result<(), NoMemory>
+        requires valid { IsValid world.now }
+        requires fits { AllFit world.now self.old.machine }
+        requires room { self.old.machine.serial + count < 2 ^ 32 }
+        ensures { OnOk result (self.new ≡ gone_times world.now count self.old) }
     {
         let mut left = count;
-        while left > 0 && !self.machine.ready.is_empty() {
+        while left > 0 {
+            if self.machine.ready.is_empty() {
+                return Ok(());
+            }
             self.go(alloc, world)?;
             left -= 1;
         }
@@ -146,10 +178,14 @@ impl Played {
 
     /// A turn of a schedule. One that is not possible does nothing.
     pub fn turn(&mut self, alloc: Global, world: &World, turn: Turn) -> Result<(), NoMemory>
+        requires valid { IsValid world.now }
+        requires fits { AllFit world.now self.old.machine }
+        requires room { self.old.machine.serial + turn_count turn < 2 ^ 32 }
+        ensures { OnOk result (self.new ≡ turned world.now self.old turn) }
     {
         match turn {
-            Turn::Go(0) => self.go(alloc, world),
-            Turn::Push(0, 0) => self.push(alloc, world),
+            Turn::Go(node) if node == 0 => self.go(alloc, world),
+            Turn::Push(node, other) if node == 0 && other == 0 => self.push(alloc, world),
             Turn::Auto(count) => self.go_times(alloc, world, count),
             Turn::Go(_) | Turn::Push(_, _) | Turn::Take(_, _) => Ok(()),
         }

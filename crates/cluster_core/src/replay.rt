@@ -11,6 +11,11 @@ use unix_names::NoMemory;
 
 /// Runs the turns of a schedule on the one node of a world, one after another.
 pub fn run(alloc: Global, world: &World, schedule: &[Turn]) -> Result<Run, NoMemory>
+    requires valid { IsValid world.now }
+    requires one_node { world.now.nodes ≡ 1 }
+    requires few { total_turns schedule.now ≤ 200000 }
+    ensures entries { IfOk result (λ r. r.entries ≡ (run world.now schedule.now).history) }
+    ensures quiet { IfOk result (λ r. IsTrue r.is_quiet ↔ IsQuiet (run world.now schedule.now)) }
 {
     let mut played = Played::first(alloc, world)?;
     for turn in schedule {

@@ -1,5 +1,5 @@
 // Who is told of an entry, so that its process does not sleep on.
-ghost use Rattle.std.specs.Prelude.{◌≡◌, ◌++◌, ◌∷◌, [], filter, IfOk, OnOk};
+ghost use Rattle.std.specs.Prelude.{◌≡◌, ◌++◌, ◌∷◌, [], filter, if◌then◌else◌, IfOk, OnOk};
 ghost use Rattle.std.specs.List.{list_any, flat_map};
 ghost use Rattle.unix_calls.specs.Calls.{HasNames, EntryHasNames, IsName};
 ghost use Rattle.ordered_table.specs.Entries.{pids_of};
@@ -214,17 +214,26 @@ fn is_at_risk(rows: &[Row], group: Pid) -> bool
     has_stopped(rows, group) && !is_orphaned(rows, group)
 }
 
+fn add_at_risk(risk: &mut Seq<Pid>, rows: &[Row], group: Pid) -> Result<(), NoMemory>
+    ensures { OnOk result (risk.new ≡ risk.old ++ (if is_at_risk rows.now group then group ∷ [] else [])) }
+{
+    if is_at_risk(rows, group) {
+        risk.push(group)?;
+    }
+    Ok(())
+}
+
 /// The groups with a stopped member that are not orphaned, in order of number.
+#[tactic(auto, using(crate::proofs::ToldLaws::none_at_risk))]
 fn groups_at_risk(alloc: Global, rows: &[Row], groups: &Groups) -> Result<Seq<Pid>, NoMemory>
     ensures { IfOk result (λ risk. risk ≡ filter (is_at_risk rows.now) (pids_of groups.now)) }
 {
     let mut risk = Seq::new(alloc);
-    if has_stopped_row(rows) {
-        for members in groups.as_slice() {
-            if is_at_risk(rows, members.pid) {
-                risk.push(members.pid)?;
-            }
-        }
+    if !has_stopped_row(rows) {
+        return Ok(risk);
+    }
+    for members in groups.as_slice() {
+        add_at_risk(&mut risk, rows, members.pid)?;
     }
     Ok(risk)
 }
