@@ -1,0 +1,4 @@
+pub mod Results
+pub mod Statements
+pub mod Words
+pub mod Lines
