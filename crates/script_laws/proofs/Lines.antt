@@ -71,3 +71,63 @@ module _ (names : Names) (place : Place) (row : Row) (i : Item) where
       let d = next_ok (ended {A = Unit {0}} row 2 tt) _ i t.1 in
       let is : item.Nodes m.0 ≡ i = cc in
       opens m.0 skip begun w m.1 ((ended_ok row 2 tt d.0 d.1).0) (ltb-true 0 m.0 p.0) (leb-true m.0 64 p.1) (sym is) (place_now head.Unknown m.0 skip (ap head_of w) (ap (λ z. nodes_after place.nodes (Ok z)) (sym is)))
+
+  begins_now : is_skipped row ≡ false → place.begun ≡ true → head_of (word_at row 0) ≡ head.Script → word_at row 0 ≡ codes "script" → script_line names place row ≡ Ok i → Here
+  unfolding script_line
+  begins_now skip begun h w e =
+      let a = else_ok (place.scripts == 64) _ TooManyScripts i e in
+      let b = else_ok place.is_open _ UnknownWord i a.1 in
+      let n = next_ok (name (word_at row 1)) _ i b.1 in
+      let t = then_ok (is_numbered names.scripts (word_at row 1) place.scripts) _ DoubleName i n.2 in
+      let d = next_ok (ended {A = Unit {0}} row 2 tt) _ i t.1 in
+      let is : item.ScriptBegins ≡ i = cc in
+      begins skip begun w a.0 b.0 n.1 t.0 ((ended_ok row 2 tt d.0 d.1).0) (sym is) (place_now head.Script place.nodes skip h (ap (λ z. nodes_after place.nodes (Ok z)) (sym is)))
+
+  ends_now : is_skipped row ≡ false → place.begun ≡ true → head_of (word_at row 0) ≡ head.End → word_at row 0 ≡ codes "end" → end_line place row ≡ Ok i → Here
+  unfolding end_line
+  ends_now skip begun h w e =
+      let a = then_ok place.is_open _ UnknownWord i e in
+      let d = next_ok (ended {A = Unit {0}} row 1 tt) _ i a.1 in
+      let is : item.ScriptEnds ≡ i = cc in
+      ends skip begun w a.0 ((ended_ok row 1 tt d.0 d.1).0) (sym is) (place_now head.End place.nodes skip h (ap (λ z. nodes_after place.nodes (Ok z)) (sym is)))
+
+  says_now : (v : Verb) → is_skipped row ≡ false → place.begun ≡ true → head_of (word_at row 0) ≡ head.Says v → word_at row 0 ≡ text_of v → statement_line names place v row ≡ Ok i → Here
+  unfolding statement_line
+  says_now v skip begun h w e =
+      let a = then_ok place.is_open _ UnknownWord i e in
+      let b = else_ok (place.statements == 256) _ TooManyStatements i a.1 in
+      let s = next_ok (statement_of names place v row) _ i b.1 in
+      let is : item.Says s.0 ≡ i = cc in
+      says v s.0 skip begun w a.0 b.0 s.1 (sym is) (place_now (head.Says v) place.nodes skip h (ap (λ z. nodes_after place.nodes (Ok z)) (sym is)))
+
+  starts_now : is_skipped row ≡ false → place.begun ≡ true → head_of (word_at row 0) ≡ head.Start → word_at row 0 ≡ codes "start" → start_line names place row ≡ Ok i → Here
+  unfolding start_line start_words
+  starts_now skip begun h w e =
+      let a = else_ok (place.starts == 64) _ TooManyStarts i e in
+      let b = else_ok place.is_open _ UnknownWord i a.1 in
+      let site = next_ok (node place.nodes (word_at row 1)) _ i b.1 in
+      let runs = next_ok (script names.scripts (word_at row 2)) _ i site.2 in
+      let variable = next_ok (start_variable names place (word_at row 3)) _ i runs.2 in
+      let uid = next_ok (user row) _ i variable.2 in
+      let other = next_ok (joined names place uid.0.1 row) _ i uid.2 in
+      let s : StartLine = record { node = site.0; script = runs.0; var = variable.0; uid = uid.0.0; joined = other.0 } in
+      let is : item.Starts s ≡ i = cc in
+      starts s skip begun w a.0 b.0 (record { node = site.1; script = runs.1; var = variable.1; count = uid.0.1; uid = uid.1; joined = other.1 }) (sym is)
+      (place_now head.Start place.nodes skip h (ap (λ z. nodes_after place.nodes (Ok z)) (sym is)))
+
+  later_now : (h : Head) → is_skipped row ≡ false → place.begun ≡ true → head_of (word_at row 0) ≡ h → BeginsSo (word_at row 0) h → later_line names place h row ≡ Ok i → Here
+  unfolding later_line
+  later_now head.Script skip begun h w e = begins_now skip begun h w e
+  later_now head.End skip begun h w e = ends_now skip begun h w e
+  later_now head.Start skip begun h w e = starts_now skip begun h w e
+  later_now (head.Says v) skip begun h w e = says_now v skip begun h w e
+  later_now head.Unknown skip begun h w e = cc
+
+  pub step : read_row names place row ≡ Ok i → Here
+  unfolding read_row
+  step e = go (is_skipped row) place.begun refl refl e
+    where
+      go : (a b : Bool) → is_skipped row ≡ a → place.begun ≡ b → cond a (Ok item.Nothing) (cond b (later_line names place (head_of (word_at row 0)) row) (cluster_line row)) ≡ Ok i → Here
+      go true b skip begun h = let is : item.Nothing ≡ i = cc in silent_now skip (sym is)
+      go false true skip begun h = later_now (head_of (word_at row 0)) skip begun refl (head_word (word_at row 0)) h
+      go false false skip begun h = opens_now skip begun h
