@@ -4,8 +4,10 @@ use Rattle.std.specs.Prelude.{codes}
 use Rattle.std.specs.List.{find}
 use Rattle.std.specs.Str.{bytes_eq}
 use Rattle.unix_names.proofs.SignalLaws.{find-passes}
+use Rattle.std.proofs.lemmas.Bool.{eqb-true}
 use Rattle.std.proofs.lemmas.Slice.Eq.{bytes_eq-Decides}
 use Rattle.script_reader.specs.declared.statements.Verb.{Verb}
+use Rattle.script_reader.specs.declared.statements.Verb.TheVariants as verb
 use Rattle.script_reader.specs.declared.lines.Head.{Head}
 use Rattle.script_reader.specs.declared.lines.Head.TheVariants as head
 use Rattle.script_reader.specs.Words.{Word, Row, is_same, word_at}
@@ -50,3 +52,43 @@ head_word word = go (is_same word (codes "script")) (is_same word (codes "end"))
     go false false true o ea eb ec eo = rw (ea, eb, ec) (same_words word (codes "start") ec)
     go false false false (Some v) ea eb ec eo = rw (ea, eb, ec, eo) (verb_word word v eo)
     go false false false None ea eb ec eo = rw (ea, eb, ec, eo) (differs word (codes "script") ea, differs word (codes "start") ec, λ f. fork_named (subst (λ w. verb_named w ≡ None) f eo))
+
+-- ---- lines by their first word
+-- a line that is skipped begins with none of these
+skipped_first : (row : Row) (first : Word) (b : ℕ) (bs : List ℕ) → first ≡ b ∷ bs → (35 == b) ≡ false → is_skipped row ≡ true → begins_with first row ≡ false
+unfolding is_skipped begins_with word_at is_same
+skipped_first [] first b bs f n e = rw f refl
+skipped_first ([] ∷ ws) first b bs f n e = cc
+skipped_first ((c ∷ cs) ∷ ws) first b bs f n e = let is : c ≡ 35 = eqb-true c 35 e in rw (f, is, n) refl
+
+pub skipped_script : (row : Row) → is_skipped row ≡ true → begins_with (codes "script") row ≡ false
+skipped_script row e = skipped_first row (codes "script") 115 (codes "cript") refl refl e
+
+pub skipped_start : (row : Row) → is_skipped row ≡ true → begins_with (codes "start") row ≡ false
+skipped_start row e = skipped_first row (codes "start") 115 (codes "tart") refl refl e
+
+pub skipped_fork : (row : Row) → is_skipped row ≡ true → begins_with (codes "fork") row ≡ false
+skipped_fork row e = skipped_first row (codes "fork") 102 (codes "ork") refl refl e
+
+-- whether a line begins with a word, by the word that it begins with
+pub begins_so : (row : Row) (first word : Word) (b : Bool) → word_at row 0 ≡ word → is_same word first ≡ b → begins_with first row ≡ b
+unfolding begins_with
+begins_so row first word b w e = ap (λ z. is_same z first) w ∙ e
+
+pub verb_script : (v : Verb) → is_same (text_of v) (codes "script") ≡ false
+unfolding is_same
+verb_script verb.Getpid = refl
+verb_script _ = refl
+
+pub verb_start : (v : Verb) → is_same (text_of v) (codes "start") ≡ false
+unfolding is_same
+verb_start verb.Getpid = refl
+verb_start _ = refl
+
+pub script_word : (is_same (codes "script") (codes "script") ≡ true) × (is_same (codes "end") (codes "script") ≡ false) × (is_same (codes "start") (codes "script") ≡ false) × (is_same (codes "cluster") (codes "script") ≡ false)
+unfolding is_same
+script_word = (refl, refl, refl, refl)
+
+pub start_word : (is_same (codes "script") (codes "start") ≡ false) × (is_same (codes "end") (codes "start") ≡ false) × (is_same (codes "start") (codes "start") ≡ true) × (is_same (codes "cluster") (codes "start") ≡ false)
+unfolding is_same
+start_word = (refl, refl, refl, refl)
