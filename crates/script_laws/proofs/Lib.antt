@@ -3,3 +3,7 @@ pub mod Statements
 pub mod Words
 pub mod Lines
 pub mod Tables
+pub mod Walks
+pub mod Scripts
+pub mod Starts
+pub mod Parts

@@ -1,0 +1,9 @@
+-- What is true of each world that a part of a file means.
+use Rattle.std.specs.Prelude.{◌≡◌, ℕ, List, Ok}
+use Rattle.unix_calls.specs.declared.World.{World}
+use Rattle.unix_calls.specs.Valid.{IsValid}
+use Rattle.script_reader.specs.Files.{read_part}
+
+-- a world that is read can be run; the first line of the part has a number, which is any
+abbrev pub ReadIsValid : Type 0
+ReadIsValid = (first : ℕ) (lines : List (List ℕ)) (world : World) → read_part first lines ≡ Ok world → IsValid world
