@@ -1,3 +1,4 @@
+pub mod Files
 pub mod Form
 pub mod Kinds
 pub mod Lines
