@@ -1,5 +1,6 @@
 -- what a whole world part means, or its least fault
-use Rattle.std.specs.Prelude.{ℕ, ◌+◌, ◌-◌, ◌==◌, Bool, ◌&&◌, nat_le, if◌then◌else◌, List, [], ◌∷◌, ◌++◌, length, map, filter, codes, Option, Some, None, Result, Ok, Err}
+use Rattle.std.specs.Prelude.{ℕ, ◌+◌, ◌-◌, ◌==◌, Bool, true, false, ◌&&◌, nat_le, if◌then◌else◌, List, [], ◌∷◌, ◌++◌, length, map, filter, codes, Option, Some, None, Result, Ok, Err}
+use Rattle.std.specs.Str.{is_utf8}
 use Rattle.byte_ends.specs.Text.{words}
 use Rattle.unix_calls.specs.declared.Script.{Script}
 use Rattle.unix_calls.specs.declared.Start.{Start}
@@ -10,7 +11,7 @@ use Rattle.unix_calls.specs.Valid.{start_pid}
 use Rattle.unix_calls.specs.Work.{works, total_work}
 use Rattle.script_reader.specs.declared.faults.Fault.{Fault}
 use Rattle.script_reader.specs.declared.faults.Kind.{Kind}
-use Rattle.script_reader.specs.declared.faults.Kind.TheVariants.{NoClusterLine, UnknownWord, TooMuchWork, NoStart}
+use Rattle.script_reader.specs.declared.faults.Kind.TheVariants.{NotUtf8, NoClusterLine, UnknownWord, TooMuchWork, NoStart}
 use Rattle.script_reader.specs.declared.names.Names.{Names}
 use Rattle.script_reader.specs.declared.places.Place.{Place}
 use Rattle.script_reader.specs.declared.lines.Item.{Item}
@@ -105,6 +106,7 @@ judged works earlier line [] = Ok earlier
 judged works earlier line (told ∷ rest) = judged_line told.1 where
   with_start : List Start → Result (List Start) Fault
   with_start starts = if is_little (total_work works starts) then judged works starts (line + 1) rest else Err (fault_at line TooMuchWork)
+
   judged_line : Result Item Kind → Result (List Start) Fault
   judged_line (Err kind) = Err (fault_at line kind)
   judged_line (Ok (item.Starts s)) = with_start (earlier ++ start_of earlier s ∷ [])
@@ -114,10 +116,10 @@ judged works earlier line (told ∷ rest) = judged_line told.1 where
 abbrev pub end_kind : Place → Option Kind
 end_kind place = if place.is_open then Some UnknownWord else (if place.starts == 0 then Some NoStart else None)
 
--- what is wrong with a part in which no line says anything, told at its first line
-abbrev pub silent_fault : ℕ → List Told → Fault
-silent_fault first ((row, Err kind) ∷ rest) = fault_at first kind
-silent_fault first _ = fault_at first NoClusterLine
+-- what is wrong with a part in which no line says anything: its first line may be no text
+abbrev pub silent_kind : List (List ℕ) → Kind
+silent_kind [] = NoClusterLine
+silent_kind (line ∷ lines) = if is_utf8 line then NoClusterLine else NotUtf8
 
 -- a world, where nothing is wrong behind the last line
 abbrev pub ended_world : ℕ → Option Kind → World → Result World Fault
@@ -134,13 +136,13 @@ whole_world names last told place (Ok starts) = ended_world last (end_kind place
   starts = starts;
 })
 
--- what lines mean that are told with the names of their file
-unfoldable pub told_part : Names → ℕ → List Told → Result World Fault
-told_part names first told =
+-- what lines mean that are told with the names of their file; first is the number of the first of them
+unfoldable pub told_part : Names → ℕ → List (List ℕ) → List Told → Result World Fault
+told_part names first lines told =
     if (place_behind first_place told).begun
-    then whole_world names (first + length told - 1) told (place_behind first_place told) (judged (works (scripts_of told)) [] first told)
-    else Err (silent_fault first told)
+    then whole_world names (first + length lines - 1) told (place_behind first_place told) (judged (works (scripts_of told)) [] first told)
+    else Err (fault_at first (silent_kind lines))
 
 -- what a world part means whose first line has this number: a world, or the least fault
 unfoldable pub read_part : ℕ → List (List ℕ) → Result World Fault
-read_part first lines = told_part (gather (map words lines)) first (tells (gather (map words lines)) first_place lines)
+read_part first lines = told_part (gather (map words lines)) first lines (tells (gather (map words lines)) first_place lines)

@@ -1,3 +1,4 @@
+pub mod Bodies
 pub mod Files
 pub mod Form
 pub mod Kinds
@@ -5,3 +6,4 @@ pub mod Lines
 pub mod Names
 pub mod Statements
 pub mod Words
+pub mod Written
