@@ -99,18 +99,20 @@ is_little work = nat_le work.processes 1024 && nat_le work.statements 4096
 abbrev pub fault_at : ℕ → Kind → Fault
 fault_at line kind = record { line = line; kind = kind }
 
+-- earlier starts, and one more
+abbrev pub with_start : List Start → StartLine → List Start
+with_start earlier s = earlier ++ start_of earlier s ∷ []
+
 -- earlier starts and those of lines from a line's number on, or the least line with a fault of its own: one of its words,
 -- or a start with which there is too much work. works has the work of each script.
 unfoldable pub judged : List Work → List Start → ℕ → List Told → Result (List Start) Fault
 judged works earlier line [] = Ok earlier
-judged works earlier line (told ∷ rest) = judged_line told.1 where
-  with_start : List Start → Result (List Start) Fault
-  with_start starts = if is_little (total_work works starts) then judged works starts (line + 1) rest else Err (fault_at line TooMuchWork)
-
-  judged_line : Result Item Kind → Result (List Start) Fault
-  judged_line (Err kind) = Err (fault_at line kind)
-  judged_line (Ok (item.Starts s)) = with_start (earlier ++ start_of earlier s ∷ [])
-  judged_line (Ok _) = judged works earlier (line + 1) rest
+judged works earlier line ((row, Err kind) ∷ rest) = Err (fault_at line kind)
+judged works earlier line ((row, Ok (item.Starts s)) ∷ rest) =
+    if is_little (total_work works (with_start earlier s))
+    then judged works (with_start earlier s) (line + 1) rest
+    else Err (fault_at line TooMuchWork)
+judged works earlier line ((row, Ok _) ∷ rest) = judged works earlier (line + 1) rest
 
 -- what is wrong with a whole part behind its last line: a script is open, or nothing is started
 abbrev pub end_kind : Place → Option Kind

@@ -1,7 +1,7 @@
 // The scripts of a file, line by line.
-ghost use Rattle.std.specs.Prelude.{◌≡◌, [], ◌∷◌, List, map, IfOk, OnOk};
+ghost use Rattle.std.specs.Prelude.{◌≡◌, [], ◌∷◌, ◌++◌, true, false, if◌then◌else◌, List, map, IfOk, OnOk};
 ghost use Rattle.script_reader.specs.Bodies.{scripts_with};
-ghost use Rattle.script_reader.specs.Files.{Told};
+ghost use Rattle.script_reader.specs.Files.{Told, body, scripts_of};
 
 use crate::faults::{Kind, ReadRefusal};
 use crate::gather::begins_with;
