@@ -7,3 +7,4 @@ pub mod Walks
 pub mod Scripts
 pub mod Starts
 pub mod Parts
+pub mod Orders

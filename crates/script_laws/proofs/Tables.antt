@@ -52,10 +52,10 @@ pub record IsListed (t : Table) : Type 0 where
   pub below : AreBelow t (length t)
   pub one : (a b : Word) (n : ℕ) → number_in t a ≡ Some n → number_in t b ≡ Some n → a ≡ b
 
-noted_length : (t : Table) (word : Word) → (number_in t word ≡ None) → length (noted t word (length t)) ≡ length t + 1
+pub noted_length : (t : Table) (word : Word) → (number_in t word ≡ None) → length (noted t word (length t)) ≡ length t + 1
 noted_length t word e = rw e (length-append t ((word, length t) ∷ []))
 
-noted_listed : (t : Table) (word : Word) → IsListed t → IsListed (noted t word (length t))
+pub noted_listed : (t : Table) (word : Word) → IsListed t → IsListed (noted t word (length t))
 noted_listed t word listed = go (number_in t word) refl
   where
     one : (a b : Word) (n : ℕ) → (number_in t a ≡ Some n) ⊎ ((n ≡ length t) × (a ≡ word)) → (number_in t b ≡ Some n) ⊎ ((n ≡ length t) × (b ≡ word)) → a ≡ b
@@ -81,7 +81,7 @@ listed_listed t (word ∷ words) l = listed_listed (noted t word (length t)) wor
 none_below : (bound : ℕ) → AreBelow [] bound
 none_below bound = record { each = λ w m e. cc }
 
-none_listed : IsListed []
+pub none_listed : IsListed []
 none_listed = record { below = none_below 0; one = λ a b n x y. cc }
 
 -- the names of a file
