@@ -8,3 +8,5 @@ pub mod Scripts
 pub mod Starts
 pub mod Parts
 pub mod Orders
+pub mod Variables
+pub mod Numbered

@@ -100,6 +100,9 @@ module _ (names : Names) (place : Place) (row : Row) (i : Item) where
       let is : item.Says s.0 ≡ i = cc in
       says v s.0 skip begun w a.0 b.0 s.1 (sym is) (place_now (head.Says v) place.nodes skip h (ap (λ z. nodes_after place.nodes (Ok z)) (sym is)))
 
+  started_now : (s : StartLine) → is_skipped row ≡ false → place.begun ≡ true → head_of (word_at row 0) ≡ head.Start → word_at row 0 ≡ codes "start" → (place.starts == 64) ≡ false → place.is_open ≡ false → IsStartLine names place row s → i ≡ item.Starts s → Here
+  started_now s skip begun h w few closed l is = starts s skip begun w few closed l is (place_now head.Start place.nodes skip h (ap (λ z. nodes_after place.nodes (Ok z)) is))
+
   starts_now : is_skipped row ≡ false → place.begun ≡ true → head_of (word_at row 0) ≡ head.Start → word_at row 0 ≡ codes "start" → start_line names place row ≡ Ok i → Here
   unfolding start_line start_words
   starts_now skip begun h w e =
@@ -110,10 +113,8 @@ module _ (names : Names) (place : Place) (row : Row) (i : Item) where
       let variable = next_ok (start_variable names place (word_at row 3)) _ i runs.2 in
       let uid = next_ok (user row) _ i variable.2 in
       let other = next_ok (joined names place uid.0.1 row) _ i uid.2 in
-      let s : StartLine = record { node = site.0; script = runs.0; var = variable.0; uid = uid.0.0; joined = other.0 } in
-      let is : item.Starts s ≡ i = cc in
-      starts s skip begun w a.0 b.0 (record { node = site.1; script = runs.1; var = variable.1; count = uid.0.1; uid = uid.1; joined = other.1 }) (sym is)
-      (place_now head.Start place.nodes skip h (ap (λ z. nodes_after place.nodes (Ok z)) (sym is)))
+      let is : item.Starts (record { node = site.0; script = runs.0; var = variable.0; uid = uid.0.0; joined = other.0 }) ≡ i = cc in
+      started_now _ skip begun h w a.0 b.0 (record { node = site.1; script = runs.1; var = variable.1; count = uid.0.1; uid = uid.1; joined = other.1 }) (sym is)
 
   later_now : (h : Head) → is_skipped row ≡ false → place.begun ≡ true → head_of (word_at row 0) ≡ h → BeginsSo (word_at row 0) h → later_line names place h row ≡ Ok i → Here
   unfolding later_line

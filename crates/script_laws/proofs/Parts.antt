@@ -77,7 +77,7 @@ scripts_counted names place (line ∷ lines) =
 
 -- ---- the world of a part without a fault
 module _ (first : ℕ) (lines : List (List ℕ)) (world : World) (w : IsWhole first lines world) where
-  walk : Walk (names_of lines) first_place (told_of lines)
+  pub walk : Walk (names_of lines) first_place (told_of lines)
   walk = walked (names_of lines) first_place lines (all_read (works (scripts_of (told_of lines))) [] first (told_of lines) w.starts w.judged)
 
   pub variables_known : AreVariables (names_of lines).variables (world_of lines w.starts)
@@ -100,7 +100,7 @@ module _ (first : ℕ) (lines : List (List ℕ)) (world : World) (w : IsWhole fi
       let z : 0 + k ≡ k = omega arith in
       (r.0, All-weaker (IsRead (world_of lines w.starts) k) (IsStatement (world_of lines w.starts) k) (λ s h. h.0) script.statements (subst (λ j. All (IsRead (world_of lines w.starts) j) script.statements) z r.1))
 
-  world_valid : IsValid (world_of lines w.starts)
+  pub world_valid : IsValid (world_of lines w.starts)
   world_valid =
       let c = cluster_fits (names_of lines) first_place (told_of lines) walk refl w.begun in
       let few = scripts_few (names_of lines) first_place (told_of lines) walk (omega arith) in

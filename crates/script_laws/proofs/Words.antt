@@ -92,3 +92,12 @@ script_word = (refl, refl, refl, refl)
 pub start_word : (is_same (codes "script") (codes "start") ≡ false) × (is_same (codes "end") (codes "start") ≡ false) × (is_same (codes "start") (codes "start") ≡ true) × (is_same (codes "cluster") (codes "start") ≡ false)
 unfolding is_same
 start_word = (refl, refl, refl, refl)
+
+pub verb_fork : (v : Verb) → (v ≡ verb.Fork → ⊥) → is_same (text_of v) (codes "fork") ≡ false
+unfolding is_same
+verb_fork verb.Fork n = absurd (n refl)
+verb_fork _ n = refl
+
+pub fork_word : (is_same (codes "fork") (codes "fork") ≡ true) × (is_same (codes "script") (codes "fork") ≡ false) × (is_same (codes "end") (codes "fork") ≡ false) × (is_same (codes "start") (codes "fork") ≡ false) × (is_same (codes "cluster") (codes "fork") ≡ false)
+unfolding is_same
+fork_word = (refl, refl, refl, refl, refl)
