@@ -10,3 +10,5 @@ pub mod Parts
 pub mod Orders
 pub mod Variables
 pub mod Numbered
+pub mod Reading
+pub mod Spoken
