@@ -12,3 +12,4 @@ pub mod Variables
 pub mod Numbered
 pub mod Reading
 pub mod Spoken
+pub mod Heads

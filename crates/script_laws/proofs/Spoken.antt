@@ -21,6 +21,7 @@ use Rattle.script_reader.specs.Names.{Table, number_in}
 use Rattle.script_reader.specs.Statements.{ended, node, own_variable, script, earlier_script, process, target, site, fork_statement, wait_statement, kill_statement, setpgid_statement, action_statement, mask_statement, migrate_statement, exec_statement, exit_statement, getpgid_statement, getsid_statement, statement_of, text_of}
 use Rattle.script_reader.specs.Lines.{is_numbered, start_variable, user, earlier_start, joined, start_words}
 use Rattle.script_reader.specs.Written.{change_words, act_word, wait_word}
+use Rattle.list_laws.proofs.Finding.{same_number}
 use Rattle.script_laws.specs.Grammar.{IsName, Naming, IsCalled, IsFor, IsArg, IsSite, Spells, IsUser, Joins, SpellsStart}
 use Rattle.script_laws.proofs.Reading.{Agrees, name_read, number_read, node_read, signal_number_read, set_read, own_read, process_read, target_read, wanted_read, selector_read, act_read, changes_read}
 
@@ -107,3 +108,42 @@ first_word naming row (statement.Action sig act) h = rw h.1 refl
 first_word naming row (statement.Mask set) h = rw h.1 refl
 first_word naming row statement.Pending h = rw h refl
 first_word naming row (statement.Migrate node) h = rw h.1 refl
+
+-- a start of the part stands under its variable
+pub record HasStarts (names : Names) (naming : Naming) (all : List Start) : Type 0 where
+  pub each : (i : ℕ) (s : Start) (word : Word) → slice_get all i ≡ Some s → IsCalled naming.variables word s.var → number_in names.starts word ≡ Some i
+
+module _ (names : Names) (naming : Naming) (has : HasNaming names naming) (all : List Start) (known : HasStarts names naming all) (place : Place) where
+  variable_read : (word : Word) (s : Start) → slice_get all place.starts ≡ Some s → IsCalled naming.variables word s.var → start_variable names place word ≡ Ok s.var
+  unfolding start_variable is_numbered
+  variable_read word s e c = rw (name_read word (has.variables.name word s.var c), known.each place.starts s word e c, same_number place.starts, has.variables.each word s.var c) refl
+
+  earlier_start_read : (word : Word) (j : ℕ) (other : Start) → slice_get all j ≡ Some other → IsCalled naming.variables word other.var → j < place.starts → earlier_start names place word ≡ Ok j
+  unfolding earlier_start
+  earlier_start_read word j other e c lt = rw (name_read word (has.variables.name word other.var c), known.each j other word e c, lt-ltb j place.starts lt) refl
+
+  -- what stands behind the variable of a start
+  pub record EndsSo (a b c d : Word) (more : Row) (uid : ℕ) (o : Option ℕ) : Type 0 where
+    pub count : ℕ
+    pub user : user (a ∷ b ∷ c ∷ d ∷ more) ≡ Ok (uid, count)
+    pub joined : joined names place count (a ∷ b ∷ c ∷ d ∷ more) ≡ Ok o
+
+  abbrev IsEarlier : Option ℕ → Type 0
+  IsEarlier o = IfSome o (λ j. j < place.starts)
+
+  start_end : (a b c d : Word) (users other : Row) (uid : ℕ) (o : Option ℕ) → IsUser users uid → Joins naming all other o → IsEarlier o → EndsSo a b c d (users ++ other) uid o
+  unfolding user joined word_at is_same ended
+  start_end a b c d users other uid None (inl u) j lt = record { count = 4; user = rw (u.0, u.1, j) refl; joined = rw (u.0, j) refl }
+  start_end a b c d users other uid None (inr u) j lt = record { count = 6; user = rw (u.1, number_read u.0 uid u.2) refl; joined = rw (u.1, j) refl }
+  start_end a b c d users other uid (Some k) (inl u) j lt = record { count = 4; user = rw (u.0, u.1, j.2) refl; joined = rw (u.0, j.2, earlier_start_read j.0 k j.1 j.3 j.4 lt) refl }
+  start_end a b c d users other uid (Some k) (inr u) j lt = record { count = 6; user = rw (u.1, number_read u.0 uid u.2) refl; joined = rw (u.1, j.2, earlier_start_read j.0 k j.1 j.3 j.4 lt) refl }
+
+  -- what a start's line says
+  abbrev pub line_of : Start → StartLine
+  line_of s = record { node = s.node.0; script = s.script; var = s.var; uid = s.uid; joined = s.joined }
+
+  pub start_read : (row : Row) (s : Start) → SpellsStart naming all row s → slice_get all place.starts ≡ Some s → s.node.0 < place.nodes → IsEarlier s.joined → start_words names place row ≡ Ok (item.Starts (line_of s))
+  unfolding start_words word_at script
+  start_read row s h e lt j =
+      let t = start_end (codes "start") h.site h.name h.variable h.user h.other s.uid s.joined h.uid h.joined j in
+      rw (h.is, node_read place.nodes h.site s.node.0 h.node lt, name_read h.name (has.scripts.name h.name s.script h.script), has.scripts.each h.name s.script h.script, variable_read h.variable s e h.var, t.user, t.joined) refl
