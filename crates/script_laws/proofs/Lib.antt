@@ -13,3 +13,5 @@ pub mod Numbered
 pub mod Reading
 pub mod Spoken
 pub mod Heads
+pub mod Told
+pub mod Sense

@@ -22,11 +22,10 @@ use Rattle.script_reader.specs.declared.faults.Kind.TheVariants.{UnknownWord, Ba
 use Rattle.script_reader.specs.Words.{Word, Row, ◌>>=◌, found, is_same, word_at, is_digit, is_lower, is_name_byte, has_name_form, reserved, is_reserved, name, is_number, number, begins_with_digit, signal_named, signal_number, signal, is_minus_digits}
 use Rattle.script_reader.specs.Names.{Table, number_in}
 use Rattle.script_reader.specs.Statements.{ended, node, own_variable, script, variable, group, process, target, wanted_group, selector, changes, act, signals}
-use Rattle.script_reader.specs.Written.{change_words, act_word}
 use Rattle.script_reader.proofs.Numbers.{is_number-decides}
 use Rattle.list_laws.proofs.Filters.{and_false}
 use Rattle.script_laws.specs.Writable.{IsTarget}
-use Rattle.script_laws.specs.Grammar.{IsName, Naming, IsCalled, IsFor, IsArg, Targets, Wants, Selects, IsForSignal, IsForSignalNumber, AreForSet}
+use Rattle.script_laws.specs.Grammar.{change_words, act_word, wait_word, IsName, Naming, IsCalled, IsFor, IsArg, Targets, Wants, Selects, IsForSignal, IsForSignalNumber, AreForSet}
 use Rattle.script_laws.proofs.Words.{same_words, words_same}
 
 -- ---- words that differ

@@ -20,9 +20,8 @@ use Rattle.script_reader.specs.Words.{Word, Row, ◌>>=◌, is_same, word_at, na
 use Rattle.script_reader.specs.Names.{Table, number_in}
 use Rattle.script_reader.specs.Statements.{ended, node, own_variable, script, earlier_script, process, target, site, fork_statement, wait_statement, kill_statement, setpgid_statement, action_statement, mask_statement, migrate_statement, exec_statement, exit_statement, getpgid_statement, getsid_statement, statement_of, text_of}
 use Rattle.script_reader.specs.Lines.{is_numbered, start_variable, user, earlier_start, joined, start_words}
-use Rattle.script_reader.specs.Written.{change_words, act_word, wait_word}
 use Rattle.list_laws.proofs.Finding.{same_number}
-use Rattle.script_laws.specs.Grammar.{IsName, Naming, IsCalled, IsFor, IsArg, IsSite, Spells, IsUser, Joins, SpellsStart}
+use Rattle.script_laws.specs.Grammar.{change_words, act_word, wait_word, IsName, Naming, IsCalled, IsFor, IsArg, IsSite, Spells, IsUser, Joins, SpellsStart}
 use Rattle.script_laws.proofs.Reading.{Agrees, name_read, number_read, node_read, signal_number_read, set_read, own_read, process_read, target_read, wanted_read, selector_read, act_read, changes_read}
 
 -- the word that a statement begins with

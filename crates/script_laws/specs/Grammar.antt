@@ -5,6 +5,8 @@ use Rattle.std.specs.Str.{is_utf8}
 use Rattle.std.specs.Str.Parse.{digits_value}
 use Rattle.byte_ends.specs.Text.{words, IsNumber}
 use Rattle.unix_names.specs.declared.Signal.{Signal}
+use Rattle.unix_names.specs.declared.Act.{Act}
+use Rattle.unix_names.specs.declared.Act.TheVariants.{Default, Ignore, Catch}
 use Rattle.unix_names.specs.declared.NodeId.{NodeId}
 use Rattle.unix_names.specs.Signals.{number_of, word_of}
 use Rattle.unix_names.specs.Sets.{added}
@@ -18,7 +20,6 @@ use Rattle.unix_calls.specs.declared.World.{World}
 use Rattle.unix_calls.specs.Valid.{IsValid}
 use Rattle.script_reader.specs.Words.{Word, Row, is_lower, is_name_byte, reserved}
 use Rattle.script_reader.specs.Lines.{is_skipped}
-use Rattle.script_reader.specs.Written.{change_words, act_word, wait_word}
 use Rattle.script_laws.specs.Writable.{IsTarget, AreInOrder, variables_of}
 
 -- 1 to 16 bytes, a lower-case letter and then lower-case letters and digits, and no word with a meaning of its own
@@ -83,6 +84,23 @@ IsForSignalNumber word n = ((s : Signal) × (word ≡ word_of s) × (number_of s
 -- words of the signals of a set
 abbrev pub AreForSet : Row → ℕ → Type 0
 AreForSet row set = (signals : List Signal) × AllZip IsForSignal row signals × (fold added 0 signals ≡ set)
+
+-- a statement that waits begins with `wait`, one that doesn't with `poll`
+abbrev pub wait_word : Bool → Word
+wait_word true = codes "wait"
+wait_word false = codes "poll"
+
+-- the changes of a child that are asked for beside its end: whether stops, and whether it goes on
+abbrev pub change_words : Bool → Bool → Row
+change_words false false = []
+change_words true false = codes "stopped" ∷ []
+change_words false true = codes "continued" ∷ []
+change_words true true = codes "stopped" ∷ codes "continued" ∷ []
+
+abbrev pub act_word : Act → Word
+act_word Default = codes "default"
+act_word Ignore = codes "ignore"
+act_word Catch = codes "catch"
 
 -- where a child begins
 abbrev pub IsSite : Row → Option NodeId → Type 0
