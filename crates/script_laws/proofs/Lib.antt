@@ -15,3 +15,4 @@ pub mod Spoken
 pub mod Heads
 pub mod Told
 pub mod Sense
+pub mod Named
