@@ -16,3 +16,4 @@ pub mod Heads
 pub mod Told
 pub mod Sense
 pub mod Named
+pub mod Numbering

@@ -13,8 +13,7 @@ use Rattle.script_reader.specs.Statements.{text_of}
 use Rattle.script_reader.specs.Lines.{is_skipped}
 use Rattle.script_reader.specs.Files.{begins_with, words_behind}
 use Rattle.script_laws.specs.Writable.{assigned, assigned_by, variables_of}
-use Rattle.script_laws.specs.Grammar.{Naming, IsCalled, Spells, SpellsStart, Lines, ends, skips, starts, begins, says, closes, Part, opens}
-use Rattle.script_laws.specs.Grammar as grammar
+use Rattle.script_laws.specs.Grammar.{Naming, IsCalled, Spells, SpellsStart, Lines, ends, skips, starts, begins, says, closes, Part, silent, opens}
 use Rattle.script_laws.proofs.Words.{skipped_script, skipped_start, skipped_fork, begins_so, verb_script, verb_start, script_word, start_word, fork_word}
 use Rattle.script_laws.proofs.Spoken.{verb_of, first_word}
 use Rattle.script_laws.proofs.Told.{statements_of}
@@ -128,7 +127,7 @@ unmarked naming world row rows a b c g = record {
 
 pub part_names : (naming : Naming) (world : World) (rows : List Row) → Part naming world rows → GivesNames naming world rows
 unfolding word_at
-part_names naming world rows' (grammar.Part.skips row {rows = rows} s p) = unmarked naming world row rows (skipped_script row s) (skipped_fork row s) (skipped_start row s) (part_names naming world rows p)
+part_names naming world rows' (silent row {rows = rows} s p) = unmarked naming world row rows (skipped_script row s) (skipped_fork row s) (skipped_start row s) (part_names naming world rows p)
 part_names naming world rows' (opens word {rows = rows} n d) =
     unmarked naming world (codes "cluster" ∷ word ∷ []) rows (begins_so (codes "cluster" ∷ word ∷ []) (codes "script") (codes "cluster") false refl script_word.3) (begins_so (codes "cluster" ∷ word ∷ []) (codes "fork") (codes "cluster") false refl fork_word.4)
     (begins_so (codes "cluster" ∷ word ∷ []) (codes "start") (codes "cluster") false refl start_word.3)

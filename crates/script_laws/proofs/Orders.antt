@@ -22,7 +22,7 @@ numbers-append t [] vs (n ∷ ns) ms a b = absurd a
 numbers-append t (w ∷ ws) vs [] ms a b = absurd a
 
 -- a number stays
-noted_still : (t : Table) (word : Word) (k : ℕ) (w : Word) (m : ℕ) → number_in t w ≡ Some m → number_in (noted t word k) w ≡ Some m
+pub noted_still : (t : Table) (word : Word) (k : ℕ) (w : Word) (m : ℕ) → number_in t w ≡ Some m → number_in (noted t word k) w ≡ Some m
 noted_still t word k w m e = go (is_some (number_in t word))
   where
     go : (b : Bool) → number_in (cond b t (t ++ (word, k) ∷ [])) w ≡ Some m
@@ -34,7 +34,7 @@ unfolding listed
 listed_still t [] w m e = e
 listed_still t (word ∷ words) w m e = listed_still (noted t word (length t)) words w m (noted_still t word (length t) w m e)
 
-noted_new : (t : Table) (word : Word) (k : ℕ) → number_in t word ≡ None → number_in (noted t word k) word ≡ Some k
+pub noted_new : (t : Table) (word : Word) (k : ℕ) → number_in t word ≡ None → number_in (noted t word k) word ≡ Some k
 noted_new t word k e =
     rw (e, lookup-append (is_same word) t ((word, k) ∷ []), e, words_same word word refl) refl
 

@@ -164,7 +164,7 @@ pub data Lines (naming : Naming) (all : List Start) : Option (List Statement) �
 
 -- a part: lines that say nothing, the line of the cluster, and the others
 pub data Part (naming : Naming) (world : World) : List Row → Type 0 where
-  skips : (row : Row) {rows : List Row} → is_skipped row ≡ true → Part naming world rows → Part naming world (row ∷ rows)
+  silent : (row : Row) {rows : List Row} → is_skipped row ≡ true → Part naming world rows → Part naming world (row ∷ rows)
   opens : (word : Word) {rows : List Row} → IsFor word world.nodes → Lines naming world.starts None naming.scripts world.scripts world.starts rows → Part naming world ((codes "cluster" ∷ word ∷ []) ∷ rows)
 
 -- The lines are a part that means this world.

@@ -1,0 +1,102 @@
+-- the names of a part of the grammar get the numbers of its naming
+use Rattle.std.proofs.Common.{◌≡◌, ◌==◌, ◌⊎◌, inl, inr, ◌++◌, ℕ, zero, suc, ◌+◌, ◌<◌, ◌≤◌, Bool, true, false, cond, List, [], ◌∷◌, length, take, refl, sym, ap, ◌∙◌, subst, arith, Option, Some, None, All}
+use Rattle.std.specs.Prelude.{codes, slice_get, get_or, map, is_some}
+use Rattle.std.specs.Option.{option_or}
+use Rattle.std.proofs.lemmas.Option.{slice_get_within, slice_get-get_or, get_or_from_slice_get}
+use Rattle.std.proofs.lemmas.List.{get_or-take, length-take-le}
+use Rattle.std.proofs.lemmas.List.Elements.{All-head, All-tail}
+use Rattle.unix_calls.specs.declared.World.{World}
+use Rattle.unix_calls.specs.declared.Start.{Start}
+use Rattle.unix_calls.specs.Valid.{EachAt, IsStart, IsValid}
+use Rattle.script_reader.specs.declared.names.Names.{Names}
+use Rattle.script_reader.specs.Words.{Word, Row, is_same}
+use Rattle.script_reader.specs.Names.{Table, number_in, noted}
+use Rattle.script_reader.specs.Files.{words_behind, numbered, listed, gather}
+use Rattle.script_laws.specs.Writable.{AreInOrder, variables_of}
+use Rattle.script_laws.specs.Grammar.{IsName, Naming, IsCalled, AreNames}
+use Rattle.script_laws.proofs.Words.{same_words, words_same}
+use Rattle.script_laws.proofs.Tables.{noted_from, noted_length}
+use Rattle.script_laws.proofs.Orders.{noted_still, noted_new, listed-append}
+use Rattle.script_laws.proofs.Reading.{Agrees}
+use Rattle.script_laws.proofs.Spoken.{HasNaming, HasStarts}
+use Rattle.script_laws.proofs.Named.{AreCalled, called-append, GivesNames}
+
+some_word : (a b : Word) → ◌≡◌ {A = Option Word} (Some a) (Some b) → a ≡ b
+some_word a b e = cc
+
+-- ---- words numbered one after the other
+pub numbered_still : (t : Table) (k : ℕ) (words : List Word) (w : Word) (m : ℕ) → number_in t w ≡ Some m → number_in (numbered t k words) w ≡ Some m
+unfolding numbered
+numbered_still t k [] w m e = e
+numbered_still t k (word ∷ words) w m e = numbered_still (noted t word k) (k + 1) words w m (noted_still t word k w m e)
+
+noted_lacks : (t : Table) (word : Word) (k : ℕ) (w : Word) → number_in t w ≡ None → (w ≡ word → ⊥) → number_in (noted t word k) w ≡ None
+noted_lacks t word k w none ne = go (number_in (noted t word k) w) refl
+  where
+    go : (o : Option ℕ) → number_in (noted t word k) w ≡ o → o ≡ None
+    go None e = refl
+    go (Some m) e = elim (noted_from t word k w m e) [ inl h ↦ absurd (cc) | inr h ↦ absurd (ne h.1) ]
+
+-- the j-th word has the j-th number, where it stands there first
+pub numbered_at : (t : Table) (k : ℕ) (words : List Word) (w : Word) (j : ℕ) → number_in t w ≡ None → slice_get words j ≡ Some w → ((i : ℕ) → slice_get words i ≡ Some w → i ≡ j) → number_in (numbered t k words) w ≡ Some (k + j)
+unfolding numbered
+numbered_at t k [] w j none e one = cc
+numbered_at t k (word ∷ words) w zero none e one =
+    let is : word ≡ w = some_word word w e in
+    let z : k ≡ k + 0 = omega arith in
+    let here : number_in (noted t word k) w ≡ Some k = subst (λ (x : Word). number_in (noted t word k) x ≡ Some k) is (noted_new t word k (subst (λ (x : Word). number_in t x ≡ None) (sym is) none)) in
+    numbered_still (noted t word k) (k + 1) words w k here ∙ ap (λ (n : ℕ). Some n) z
+numbered_at t k (word ∷ words) w (suc j) none e one =
+    let z : k + 1 + j ≡ k + suc j = omega arith in
+    let other : w ≡ word → ⊥ = λ s. zero_suc j (one zero (ap (λ (x : Word). Some x) (sym s))) in
+    numbered_at (noted t word k) (k + 1) words w j (noted_lacks t word k w none other) e (λ i h. suc_same i j (one (suc i) h)) ∙ ap (λ (n : ℕ). Some n) z
+  where
+    zero_suc : (j : ℕ) → zero ≡ suc j → ⊥
+    zero_suc j e = omega arith
+
+    suc_same : (i j : ℕ) → suc i ≡ suc j → i ≡ j
+    suc_same i j e = omega arith
+
+-- ---- words listed
+-- a table has the names below a number, and no others
+pub record Fronts (names : List Word) (t : Table) (k : ℕ) : Type 0 where
+  pub long : length t ≡ k
+  pub to : (w : Word) (n : ℕ) → IsCalled names w n → n < k → number_in t w ≡ Some n
+  pub from : (w : Word) (n : ℕ) → number_in t w ≡ Some n → IsCalled names w n × (n < k)
+
+fronts_old : (names : List Word) (t : Table) (k : ℕ) (word : Word) (n : ℕ) → Fronts names t k → IsCalled names word n → n < k → noted t word (length t) ≡ t
+fronts_old names t k word n f c lt = ap (λ (o : Option ℕ). cond (is_some o) t (t ++ (word, length t) ∷ [])) (f.to word n c lt)
+
+fronts_new : (names : List Word) (t : Table) (k : ℕ) (word : Word) → AreNames names → Fronts names t k → IsCalled names word k → Fronts names (noted t word (length t)) (k + 1)
+fronts_new names t k word are f c = record {
+  long = noted_length t word lacks ∙ ap (λ n. n + 1) f.long;
+  to = λ w n h lt. go w n h (split n lt);
+  from = λ w n h. elim (noted_from t word (length t) w n h) [
+    | inl o ↦ let p = f.from w n o in (p.0, omega (arith, p.1))
+    | inr o ↦ (subst (λ (x : Word). IsCalled names x n) (sym o.1) (subst (λ m. IsCalled names word m) (sym f.long ∙ sym o.0) c), omega (arith, o.0, f.long))
+  ];
+}
+  where
+    lacks : number_in t word ≡ None
+    lacks = none (number_in t word) refl
+      where
+        none : (o : Option ℕ) → number_in t word ≡ o → o ≡ None
+        none None e = refl
+        none (Some m) e = let p = f.from word m e in let is : m ≡ k = are.1 word m k p.0 c in absurd (omega (arith, p.1))
+
+    split : (n : ℕ) → n < k + 1 → (n < k) ⊎ (n ≡ k)
+    split n lt = grind arith
+
+    go : (w : Word) (n : ℕ) → IsCalled names w n → (n < k) ⊎ (n ≡ k) → number_in (noted t word (length t)) w ≡ Some n
+    go w n h (inl lt) = noted_still t word (length t) w n (f.to w n h lt)
+    go w n h (inr e) =
+        let same : word ≡ w = some_word word w (sym c ∙ ap (slice_get names) (sym e) ∙ h) in
+        subst (λ (x : Word). number_in (noted t word (length t)) x ≡ Some n) same (noted_new t word (length t) lacks ∙ ap (λ (m : ℕ). Some m) (f.long ∙ sym e))
+
+pub fronts_listed : (names : List Word) (t : Table) (k : ℕ) (words : List Word) (ns : List ℕ) (total : ℕ) → AreNames names → Fronts names t k → AreCalled names words ns → AreInOrder k ns total → Fronts names (listed t words) total
+unfolding listed
+fronts_listed names t k [] [] total are f c o = subst (Fronts names t) o f
+fronts_listed names t k [] (n ∷ ns) total are f c o = absurd c
+fronts_listed names t k (w ∷ ws) [] total are f c o = absurd c
+fronts_listed names t k (w ∷ ws) (n ∷ ns) total are f c (inl o) = fronts_listed names (noted t w (length t)) k ws ns total are (subst (λ (x : Table). Fronts names x k) (sym (fronts_old names t k w n f c.0 o.0)) f) c.1 o.1
+fronts_listed names t k (w ∷ ws) (n ∷ ns) total are f c (inr o) = fronts_listed names (noted t w (length t)) (k + 1) ws ns total are (fronts_new names t k w are f (subst (λ m. IsCalled names w m) o.0 c.0)) c.1 o.1
