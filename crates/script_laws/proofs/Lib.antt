@@ -17,3 +17,4 @@ pub mod Told
 pub mod Sense
 pub mod Named
 pub mod Numbering
+pub mod Whole

@@ -36,7 +36,7 @@ abbrev with_pid : Start → ℕ → Start
 with_pid s n = record { node = s.node; script = s.script; var = s.var; pid = record { 0 = n }; uid = s.uid; joined = s.joined }
 
 -- ---- lines
-skip_read : (names : Names) (place : Place) (row : Row) → is_skipped row ≡ true → (read_row names place row ≡ Ok item.Nothing) × (place_after place row (Ok item.Nothing) ≡ place)
+pub skip_read : (names : Names) (place : Place) (row : Row) → is_skipped row ≡ true → (read_row names place row ≡ Ok item.Nothing) × (place_after place row (Ok item.Nothing) ≡ place)
 unfolding read_row place_after
 skip_read names place row s = (rw s refl, rw s refl)
 

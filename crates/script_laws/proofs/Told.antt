@@ -62,7 +62,7 @@ pub record Means (ws : List Work) (place : Place) (told : List Told) (ss : List 
   pub count : (place_behind place told).starts ≡ length all
   pub judged : (line : ℕ) → judged ws earlier line told ≡ Ok all
 
-judged_with : (ws : List Work) (earlier : List Start) (line : ℕ) (row : Row) (i : Item) (rest : List Told) (all : List Start) → IsLittle ws earlier i → judged ws (starts_now earlier i) (line + 1) rest ≡ Ok all → judged ws earlier line ((row, Ok i) ∷ rest) ≡ Ok all
+pub judged_with : (ws : List Work) (earlier : List Start) (line : ℕ) (row : Row) (i : Item) (rest : List Told) (all : List Start) → IsLittle ws earlier i → judged ws (starts_now earlier i) (line + 1) rest ≡ Ok all → judged ws earlier line ((row, Ok i) ∷ rest) ≡ Ok all
 unfolding judged
 judged_with ws earlier line row (item.Starts s) rest all l e = rw l e
 judged_with ws earlier line row item.Nothing rest all l e = e
