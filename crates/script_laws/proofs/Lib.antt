@@ -18,3 +18,4 @@ pub mod Sense
 pub mod Named
 pub mod Numbering
 pub mod Whole
+pub mod Understood
