@@ -19,3 +19,4 @@ pub mod Named
 pub mod Numbering
 pub mod Whole
 pub mod Understood
+pub mod Shapes
