@@ -20,3 +20,4 @@ pub mod Numbering
 pub mod Whole
 pub mod Understood
 pub mod Shapes
+pub mod Said

@@ -42,7 +42,7 @@ dropped_all (w ∷ ws) (suc k) le = dropped_all ws k (omega arith)
 pub dropped : (row : Row) (k : ℕ) → nat_le (length row) k ≡ true → drop k row ≡ []
 dropped row k e = dropped_all row k (leb-true (length row) k e)
 
-at_first : (row : Row) (a : Word) → word_at row 0 ≡ a → (a ≡ [] → ⊥) → row ≡ a ∷ drop 1 row
+pub at_first : (row : Row) (a : Word) → word_at row 0 ≡ a → (a ≡ [] → ⊥) → row ≡ a ∷ drop 1 row
 at_first row a w ne = opened row 0 (λ e. ne (sym w ∙ e)) ∙ ap (λ (x : Word). x ∷ drop 1 row) w
 
 pub row_1 : (row : Row) (a : Word) → word_at row 0 ≡ a → (a ≡ [] → ⊥) → nat_le (length row) 1 ≡ true → row ≡ a ∷ []
@@ -51,7 +51,7 @@ row_1 row a w ne le = at_first row a w ne ∙ ap (λ (r : Row). a ∷ r) (droppe
 pub row_2 : (row : Row) (a : Word) → word_at row 0 ≡ a → (a ≡ [] → ⊥) → (word_at row 1 ≡ [] → ⊥) → nat_le (length row) 2 ≡ true → row ≡ a ∷ word_at row 1 ∷ []
 row_2 row a w ne n1 le = at_first row a w ne ∙ ap (λ (r : Row). a ∷ r) (opened row 1 n1 ∙ ap (λ (r : Row). word_at row 1 ∷ r) (dropped row 2 le))
 
-row_more : (row : Row) (a : Word) → word_at row 0 ≡ a → (a ≡ [] → ⊥) → (word_at row 1 ≡ [] → ⊥) → row ≡ a ∷ word_at row 1 ∷ drop 2 row
+pub row_more : (row : Row) (a : Word) → word_at row 0 ≡ a → (a ≡ [] → ⊥) → (word_at row 1 ≡ [] → ⊥) → row ≡ a ∷ word_at row 1 ∷ drop 2 row
 row_more row a w ne n1 = at_first row a w ne ∙ ap (λ (r : Row). a ∷ r) (opened row 1 n1)
 
 pub row_rest : (row : Row) (a : Word) → word_at row 0 ≡ a → (a ≡ [] → ⊥) → (word_at row 1 ≡ [] → ⊥) → (word_at row 2 ≡ [] → ⊥) → row ≡ a ∷ word_at row 1 ∷ word_at row 2 ∷ drop 3 row
@@ -82,7 +82,7 @@ pub signal_number_some : (word : Word) (n : ℕ) → IsForSignalNumber word n �
 signal_number_some word n (inl h) e = signal_some h.0 (sym h.1 ∙ e)
 signal_number_some word n (inr h) e = number_some word n h e
 
-change_understood : (row : Row) → Gives (changes row) (λ c. drop 2 row ≡ change_words c.0 c.1)
+pub change_understood : (row : Row) → Gives (changes row) (λ c. drop 2 row ≡ change_words c.0 c.1)
 unfolding changes
 change_understood row =
     choice (nat_le (length row) 2) _ _ Changes (λ e. gives (false, false) Changes (dropped row 2 e)) (λ _.
@@ -101,7 +101,7 @@ change_understood row =
     there : (k : ℕ) (word : Word) → is_same (word_at row k) word ≡ true → (word ≡ [] → ⊥) → drop k row ≡ word ∷ drop (suc k) row
     there k word s ne = let w = same_words (word_at row k) word s in opened row k (λ e. ne (sym w ∙ e)) ∙ ap (λ (x : Word). x ∷ drop (suc k) row) w
 
-site_understood : (nodes : ℕ) (row : Row) → Gives (site nodes row) (IsSite (drop 3 row))
+pub site_understood : (nodes : ℕ) (row : Row) → Gives (site nodes row) (IsSite (drop 3 row))
 unfolding site
 site_understood nodes row =
     choice (nat_le (length row) 3) _ _ (IsSite (drop 3 row)) (λ e. gives None (IsSite (drop 3 row)) (dropped row 3 e)) (λ _.
