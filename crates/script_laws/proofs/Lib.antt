@@ -21,3 +21,4 @@ pub mod Whole
 pub mod Understood
 pub mod Shapes
 pub mod Said
+pub mod Tabled
