@@ -22,3 +22,4 @@ pub mod Understood
 pub mod Shapes
 pub mod Said
 pub mod Tabled
+pub mod Grammatical
