@@ -97,7 +97,7 @@ module _ (names : Names) (naming : Naming) (follows : Follows names naming) (all
           (word_at row (count + 1), x.0, shape (word_at row (count + 1)) w (ap (word_at row) (sym one_more)) (name_some (word_at row (count + 1)) is) (ap (nat_le (length row)) (sym two_more) ∙ le), x.1, called)
 
   -- a start without a fault
-  start_said : (place : Place) (row : Row) (s : StartLine) (earlier : List Start) → word_at row 0 ≡ codes "start" → IsStartLine names place row s → place.starts ≤ length all → SpellsStart naming all row (start_of earlier s)
+  pub start_said : (place : Place) (row : Row) (s : StartLine) (earlier : List Start) → word_at row 0 ≡ codes "start" → IsStartLine names place row s → place.starts ≤ length all → SpellsStart naming all row (start_of earlier s)
   unfolding start_of
   start_said place row s earlier w l few =
       let site = (node_understood place.nodes (word_at row 1)).fact s.node l.node in

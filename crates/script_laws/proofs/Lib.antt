@@ -23,3 +23,4 @@ pub mod Shapes
 pub mod Said
 pub mod Tabled
 pub mod Grammatical
+pub mod Built

@@ -44,7 +44,7 @@ given_by f told = filter_map (λ t. given f t.1) told
 abbrev pub rows_of : List Told → List Row
 rows_of told = map (λ t. t.0) told
 
-rows_told : (names : Names) (place : Place) (lines : List (List ℕ)) → rows_of (tells names place lines) ≡ map words lines
+pub rows_told : (names : Names) (place : Place) (lines : List (List ℕ)) → rows_of (tells names place lines) ≡ map words lines
 unfolding tells
 rows_told names place [] = refl
 rows_told names place (line ∷ lines) = ap (λ (rs : List Row). words line ∷ rs) (rows_told names (place_after place (words line) (read_line names place line)) lines)
@@ -96,7 +96,7 @@ closed_step names place row i now later (ends k b w o l e n) c none = cc
 closed_step names place row i now later (says v s k b w o cn st e n) c none = cc
 closed_step names place row i now later (starts s k b w cn o st e n) c none = rw e (none (ap (λ p. p.is_open) n ∙ c))
 
-closed_body : (names : Names) (place : Place) (told : List Told) → Walk names place told → place.is_open ≡ false → body told ≡ []
+pub closed_body : (names : Names) (place : Place) (told : List Told) → Walk names place told → place.is_open ≡ false → body told ≡ []
 unfolding body
 closed_body names place [] w c = refl
 closed_body names place (t ∷ rest) w c =
@@ -168,7 +168,7 @@ module _ (first : ℕ) (lines : List (List ℕ)) (world : World) (w : IsWhole fi
   unfolding gather
   all_listed = listed-append [] (words_behind (codes "fork") 1 FileRows) (words_behind (codes "start") 3 FileRows)
 
-  ordered : AreInOrder 0 (variables_of (world_of lines w.starts)) (length (names_of lines).variables)
+  pub ordered : AreInOrder 0 (variables_of (world_of lines w.starts)) (length (names_of lines).variables)
   ordered =
       subst (λ (t : Table). AreInOrder 0 (variables_of (world_of lines w.starts)) (length t)) (sym all_listed)
       (in_order [] (words_behind (codes "fork") 1 FileRows ++ words_behind (codes "start") 3 FileRows) (variables_of (world_of lines w.starts)) none_listed
@@ -179,7 +179,7 @@ module _ (first : ℕ) (lines : List (List ℕ)) (world : World) (w : IsWhole fi
   written_scripts k (s ∷ ss) all =
       All-cons (λ script. All IsWrittenStatement script.statements) s ss (All-weaker (IsRead (world_of lines w.starts) k) IsWrittenStatement (λ x h. h.1) s.statements all.0.1) (written_scripts (k + 1) ss all.1)
 
-  some_starts : 1 ≤ length w.starts
+  pub some_starts : 1 ≤ length w.starts
   some_starts = started_some (last_place lines).is_open (last_place lines).starts (length w.starts) w.ended ((are_started first lines world w).count)
 
   world_writable : IsWritable (world_of lines w.starts)

@@ -81,7 +81,7 @@ joined_fits names place count row =
     next (earlier_start names place (word_at row (count + 1))) _ _ (IsJoined place) (earlier_fits names place (word_at row (count + 1))) (λ n h. ended_here row (count + 2) (Some n) (IsJoined place) h)) (λ _.
     fails UnknownWord (IsJoined place)))
 
-item_same : (a b : Item) → ◌≡◌ {A = Result Item Kind} (Ok a) (Ok b) → a ≡ b
+pub item_same : (a b : Item) → ◌≡◌ {A = Result Item Kind} (Ok a) (Ok b) → a ≡ b
 item_same a b e = cc
 
 -- ---- one element more

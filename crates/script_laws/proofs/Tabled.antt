@@ -182,7 +182,7 @@ fork_named names place row i now (says v s k bg w o c st e n) b = said_named nam
 fork_named names place row i now (starts s k bg w c o st e n) b = no_true _ (begins_so row (codes "fork") (codes "start") false w fork_word.3) b
 
 -- ---- scripts are numbered in order
-numbers_step : (row : Row) (rows : List Row) (b : Bool) → begins_with (codes "script") row ≡ b → words_behind (codes "script") 1 (row ∷ rows) ≡ cond b (word_at row 1 ∷ words_behind (codes "script") 1 rows) (words_behind (codes "script") 1 rows)
+pub numbers_step : (row : Row) (rows : List Row) (b : Bool) → begins_with (codes "script") row ≡ b → words_behind (codes "script") 1 (row ∷ rows) ≡ cond b (word_at row 1 ∷ words_behind (codes "script") 1 rows) (words_behind (codes "script") 1 rows)
 unfolding words_behind
 numbers_step row rows true e = rw e refl
 numbers_step row rows false e = rw e refl
