@@ -24,3 +24,4 @@ pub mod Said
 pub mod Tabled
 pub mod Grammatical
 pub mod Built
+pub mod Exact

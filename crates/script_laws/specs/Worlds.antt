@@ -17,3 +17,7 @@ ReadIsWritable = (first : ℕ) (lines : List (List ℕ)) (world : World) → rea
 -- a part of the grammar is read, and means the world that it spells
 abbrev pub FileIsRead : Type 0
 FileIsRead = (first : ℕ) (lines : List (List ℕ)) (world : World) → IsFile lines world → read_part first lines ≡ Ok world
+
+-- a part that is read is one of the grammar, which spells the world that it means
+abbrev pub ReadIsFile : Type 0
+ReadIsFile = (first : ℕ) (lines : List (List ℕ)) (world : World) → read_part first lines ≡ Ok world → IsFile lines world
