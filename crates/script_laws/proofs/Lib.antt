@@ -25,3 +25,4 @@ pub mod Tabled
 pub mod Grammatical
 pub mod Built
 pub mod Exact
+pub mod Least
