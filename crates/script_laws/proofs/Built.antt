@@ -1,31 +1,26 @@
 -- a part without a fault is one of the grammar
-use Rattle.std.proofs.Common.{◌≡◌, ◌==◌, ◌⊎◌, inl, inr, ◌++◌, ℕ, zero, suc, ◌+◌, ◌-◌, ◌<◌, ◌≤◌, Bool, true, false, cond, List, [], ◌∷◌, length, length-append, refl, sym, ap, ◌∙◌, subst, arith, Option, Some, None, Result, Ok, Err, append_assoc, All}
-use Rattle.std.specs.Prelude.{codes, slice_get, map, nat_le}
-use Rattle.std.specs.Str.{is_utf8}
+use Rattle.std.proofs.Common.{◌≡◌, ◌++◌, ℕ, ◌+◌, ◌≤◌, Bool, true, false, cond, List, [], ◌∷◌, length, length-append, sym, ap, ◌∙◌, subst, arith, Some, None, Ok, append_assoc}
+use Rattle.std.specs.Prelude.{codes}
 use Rattle.std.proofs.lemmas.List.{append-nil}
-use Rattle.unix_calls.specs.declared.World.{World}
 use Rattle.unix_calls.specs.declared.Script.{Script}
 use Rattle.unix_calls.specs.declared.Start.{Start}
 use Rattle.unix_calls.specs.declared.Work.{Work}
 use Rattle.unix_calls.specs.declared.Statement.{Statement}
-use Rattle.script_reader.specs.declared.faults.Kind.{Kind}
 use Rattle.script_reader.specs.declared.names.Names.{Names}
 use Rattle.script_reader.specs.declared.places.Place.{Place}
 use Rattle.script_reader.specs.declared.lines.Item.{Item}
 use Rattle.script_reader.specs.declared.lines.Item.TheVariants as item
-use Rattle.script_reader.specs.Words.{Word, Row, word_at, name, number}
-use Rattle.script_reader.specs.Names.{number_in}
-use Rattle.script_reader.specs.Lines.{is_skipped, place_after}
-use Rattle.script_reader.specs.Files.{begins_with, words_behind, Told, first_place, place_behind, said, with_said, body, scripts_of, start_of, with_start, judged}
-use Rattle.script_laws.specs.Grammar.{IsName, Naming, IsFor, SpellsStart, Spells, Lines, Part, ends as no_more, skips, starts as a_start, begins as a_script, says as a_statement, closes, silent as a_silent, opens as a_cluster}
-use Rattle.script_laws.proofs.Words.{skipped_script, begins_so}
-use Rattle.script_laws.proofs.Lines.{IsStartLine, Step, silent, opens, begins, ends, says, starts}
-use Rattle.script_laws.proofs.Walks.{starts_now, judged_next, Walk, nodes_stay}
+use Rattle.script_reader.specs.Words.{Word, Row, word_at}
+use Rattle.script_reader.specs.Lines.{place_after}
+use Rattle.script_reader.specs.Files.{words_behind, Told, place_behind, said, with_said, body, scripts_of, start_of, judged}
+use Rattle.script_laws.specs.Grammar.{Naming, Lines, ends as no_more, skips, starts as a_start, begins as a_script, says as a_statement, closes}
+use Rattle.script_laws.proofs.Lines.{Step, silent, opens, begins, ends, says, starts}
+use Rattle.script_laws.proofs.Walks.{starts_now, judged_next, Walk}
 use Rattle.script_laws.proofs.Scripts.{is_beginning, script_marked, body_is, scripts_are}
 use Rattle.script_laws.proofs.Starts.{item_same}
 use Rattle.script_laws.proofs.Numbered.{rows_of, closed_body}
-use Rattle.script_laws.proofs.Understood.{name_understood, number_understood}
-use Rattle.script_laws.proofs.Shapes.{row_1, row_2, name_some, number_some}
+use Rattle.script_laws.proofs.Understood.{name_understood}
+use Rattle.script_laws.proofs.Shapes.{row_1, row_2, name_some}
 use Rattle.script_laws.proofs.Said.{Follows, statement_said}
 use Rattle.script_laws.proofs.Tabled.{numbers_step}
 use Rattle.script_laws.proofs.Grammatical.{AreKnown, start_said}
@@ -123,7 +118,7 @@ module _ (names : Names) (naming : Naming) (follows : Follows names naming) (all
       let same : n.i ≡ w.0 = item_same n.i w.0 (sym n.read ∙ w.1) in
       let now = place_after place t.0 t.1 in
       let ih = goes ws (place_after place t.0 t.1) rest (starts_now earlier w.0) (line + 1) w.3 (begun_now place t.0 w.0 (place_after place t.0 t.1) w.2 b) (counted place t.0 w.0 (place_after place t.0 t.1) earlier w.2 c)
-          (subst (λ x. judged ws (starts_now earlier x) (line + 1) rest ≡ Ok all) same n.later) closed in
+      (subst (λ x. judged ws (starts_now earlier x) (line + 1) rest ≡ Ok all) same n.later) closed in
       let few : place.starts ≤ length all = fewer earlier (later_with earlier w.0 ih.later) place.starts c (all_with earlier w.0 ih.later ih.is) in
       let d = line_case place t.0 w.0 (place_after place t.0 t.1) (body rest) (words_behind (codes "script") 1 (rows_of rest)) (scripts_of rest) earlier ih.later (rows_of rest) w.2 b few (closed_body names (place_after place t.0 t.1) rest w.3) ih.lines in
       let m = script_marked names place t.0 w.0 (place_after place t.0 t.1) w.2 in

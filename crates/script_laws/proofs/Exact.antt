@@ -1,5 +1,5 @@
 -- a part that is read is one of the grammar
-use Rattle.std.proofs.Common.{◌≡◌, ◌==◌, ◌⊎◌, inl, inr, ◌++◌, ℕ, zero, suc, ◌+◌, ◌-◌, ◌<◌, ◌≤◌, Bool, true, false, cond, List, [], ◌∷◌, length, refl, sym, ap, ◌∙◌, subst, arith, Option, Some, None, Result, Ok, Err, All}
+use Rattle.std.proofs.Common.{◌≡◌, ◌==◌, inl, inr, ℕ, zero, suc, ◌+◌, Bool, true, false, cond, List, [], ◌∷◌, length, refl, sym, ap, ◌∙◌, subst, arith, Option, Some, None, Ok, All}
 use Rattle.std.specs.Prelude.{codes, slice_get, get_or, map, nat_le}
 use Rattle.std.specs.Str.{is_utf8}
 use Rattle.std.proofs.lemmas.List.{length-map}
@@ -10,25 +10,22 @@ use Rattle.unix_calls.specs.declared.World.{World}
 use Rattle.unix_calls.specs.declared.Script.{Script}
 use Rattle.unix_calls.specs.declared.Start.{Start}
 use Rattle.unix_calls.specs.declared.Work.{Work}
-use Rattle.unix_calls.specs.declared.Statement.{Statement}
 use Rattle.unix_calls.specs.Work.{works}
-use Rattle.script_reader.specs.declared.faults.Kind.{Kind}
 use Rattle.script_reader.specs.declared.faults.Kind.TheVariants.{NotUtf8, UnknownWord, NoStart}
 use Rattle.script_reader.specs.declared.names.Names.{Names}
 use Rattle.script_reader.specs.declared.places.Place.{Place}
 use Rattle.script_reader.specs.declared.lines.Item.{Item}
-use Rattle.script_reader.specs.declared.lines.Item.TheVariants as item
 use Rattle.script_reader.specs.Words.{Word, Row, word_at, number}
-use Rattle.script_reader.specs.Names.{Table, number_in}
-use Rattle.script_reader.specs.Lines.{is_skipped, read_row, read_line, place_after}
-use Rattle.script_reader.specs.Files.{begins_with, words_behind, gather, listed, numbered, Told, first_place, tells, place_behind, end_kind, scripts_of, body, judged}
-use Rattle.script_laws.specs.Grammar.{IsName, Naming, IsCalled, IsFor, AreNames, Lines, Part, silent as a_silent, opens as a_cluster, IsFile}
+use Rattle.script_reader.specs.Names.{number_in}
+use Rattle.script_reader.specs.Lines.{read_row, read_line, place_after}
+use Rattle.script_reader.specs.Files.{begins_with, words_behind, gather, listed, numbered, Told, first_place, tells, place_behind, scripts_of, body, judged}
+use Rattle.script_laws.specs.Grammar.{IsName, Naming, IsFor, AreNames, Lines, Part, silent as a_silent, opens as a_cluster, IsFile}
 use Rattle.script_laws.specs.Worlds.{ReadIsFile}
 use Rattle.script_laws.proofs.Results.{then_ok}
 use Rattle.script_laws.proofs.Lines.{Step, silent, opens, begins, ends, says, starts}
 use Rattle.script_laws.proofs.Walks.{AllRead, all_read, starts_now, judged_next, Walk, nodes_stay}
 use Rattle.script_laws.proofs.Scripts.{is_beginning, script_marked, scripts_are}
-use Rattle.script_laws.proofs.Starts.{IsNamed, item_same}
+use Rattle.script_laws.proofs.Starts.{item_same}
 use Rattle.script_laws.proofs.Parts.{names_of, told_of, last_place, world_of, IsWhole, whole, walk, started, world_valid}
 use Rattle.script_laws.proofs.Numbered.{rows_of, rows_told, ordered, some_starts}
 use Rattle.script_laws.proofs.Understood.{number_understood}
@@ -36,7 +33,7 @@ use Rattle.script_laws.proofs.Shapes.{row_2, number_some}
 use Rattle.script_laws.proofs.Said.{Follows}
 use Rattle.script_laws.proofs.Tabled.{numbered_from, words_of, IsEnumerated, listed_enumerated, none_enumerated, AllNames, HasNames, listed_names, all_named, names_given, script_named, start_named, fork_named, numbers_step, scripts_numbered}
 use Rattle.script_laws.proofs.Grammatical.{AreKnown}
-use Rattle.script_laws.proofs.Built.{Goes, goes}
+use Rattle.script_laws.proofs.Built.{goes}
 
 name_at : (ws : List Word) (n : ℕ) (w : Word) → AllNames ws → slice_get ws n ≡ Some w → IsName w
 name_at [] n w a e = cc

@@ -1,6 +1,6 @@
 -- the fault of a part is its least one
 use Rattle.std.proofs.Common.{◌≡◌, ◌⊎◌, inl, inr, ℕ, zero, suc, ◌+◌, ◌-◌, ◌<◌, ◌≤◌, Bool, true, false, cond, List, [], ◌∷◌, length, refl, sym, ap, ◌∙◌, subst, arith, Option, Some, None, Result, Ok, Err}
-use Rattle.std.specs.Prelude.{slice_get, map, IsOk}
+use Rattle.std.specs.Prelude.{slice_get, IsOk}
 use Rattle.byte_ends.specs.Text.{words}
 use Rattle.unix_calls.specs.declared.World.{World}
 use Rattle.unix_calls.specs.declared.Start.{Start}
@@ -16,7 +16,7 @@ use Rattle.script_reader.specs.declared.lines.Item.TheVariants as item
 use Rattle.script_reader.specs.declared.lines.StartLine.{StartLine}
 use Rattle.script_reader.specs.Words.{Row}
 use Rattle.script_reader.specs.Lines.{read_line, place_after}
-use Rattle.script_reader.specs.Files.{Told, tells, first_place, place_behind, scripts_of, with_start, is_little, fault_at, judged, end_kind, ended_world, whole_world, silent_kind, gather, told_part, read_part}
+use Rattle.script_reader.specs.Files.{Told, tells, first_place, place_behind, scripts_of, with_start, is_little, fault_at, judged, end_kind, ended_world, whole_world, silent_kind, told_part, read_part}
 use Rattle.script_laws.specs.Grammar.{IsFile}
 use Rattle.script_laws.specs.Worlds.{SpellsOne, HasOneFault, SpellsOrFails, FaultIsLeast}
 use Rattle.script_laws.proofs.Walks.{AllRead, all_read}

@@ -1,6 +1,6 @@
 -- a part without a fault means a world that is numbered as files number
-use Rattle.std.proofs.Common.{◌≡◌, ◌==◌, ◌++◌, ℕ, zero, suc, ◌+◌, ◌<◌, ◌≤◌, Bool, true, false, cond, List, [], ◌∷◌, length, refl, sym, ap, ◌∙◌, subst, arith, Option, Some, None, Result, Ok, Err, append_assoc, All}
-use Rattle.std.specs.Prelude.{codes, map, filter, get_or, slice_get}
+use Rattle.std.proofs.Common.{◌≡◌, ◌==◌, ◌++◌, ℕ, ◌+◌, ◌≤◌, Bool, true, false, cond, List, [], ◌∷◌, length, refl, sym, ap, ◌∙◌, subst, arith, Option, Some, None, Result, Ok, Err, append_assoc, All}
+use Rattle.std.specs.Prelude.{codes, map, filter}
 use Rattle.std.specs.List.{flat_map, filter_map, cons_option}
 use Rattle.std.proofs.lemmas.Bool.{eqb-false}
 use Rattle.std.proofs.lemmas.List.{append-nil, map-append}
@@ -19,16 +19,16 @@ use Rattle.script_reader.specs.declared.places.Place.{Place}
 use Rattle.script_reader.specs.declared.lines.Item.{Item}
 use Rattle.script_reader.specs.declared.lines.Item.TheVariants as item
 use Rattle.script_reader.specs.Words.{Word, Row, word_at}
-use Rattle.script_reader.specs.Names.{Table, number_in}
+use Rattle.script_reader.specs.Names.{Table}
 use Rattle.script_reader.specs.Lines.{read_line, place_after}
-use Rattle.script_reader.specs.Files.{begins_with, words_behind, gather, Told, first_place, tells, place_behind, said, with_said, body, scripts_of, start_of, with_start, judged, listed, end_kind}
+use Rattle.script_reader.specs.Files.{begins_with, words_behind, gather, Told, first_place, tells, said, with_said, body, scripts_of, start_of, judged, listed}
 use Rattle.script_laws.specs.Writable.{IsWrittenStatement, assigned, assigned_by, AreInOrder, variables_of, IsWritable}
 use Rattle.script_laws.specs.Worlds.{ReadIsWritable}
-use Rattle.script_laws.proofs.Statements.{IsSmall, IsRead, AreVariables}
+use Rattle.script_laws.proofs.Statements.{IsRead}
 use Rattle.script_laws.proofs.Tables.{none_listed}
 use Rattle.script_laws.proofs.Lines.{Step, silent, opens, begins, ends, says, starts}
 use Rattle.script_laws.proofs.Walks.{starts_now, judged_next, Walk}
-use Rattle.script_laws.proofs.Scripts.{is_beginning, script_marked, body_is, scripts_are, IsReadScript, AreReadScripts}
+use Rattle.script_laws.proofs.Scripts.{is_beginning, script_marked, body_is, scripts_are, AreReadScripts}
 use Rattle.script_laws.proofs.Parts.{names_of, told_of, last_place, world_of, IsWhole, whole, walk, started as are_started, scripted, variables_known, world_valid}
 use Rattle.script_laws.proofs.Orders.{AreNumbers, numbers-append, listed-append, in_order}
 use Rattle.script_laws.proofs.Variables.{Marked, forked, started, fork_step, start_step}
