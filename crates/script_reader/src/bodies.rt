@@ -2,6 +2,7 @@
 ghost use Rattle.std.specs.Prelude.{◌≡◌, [], ◌∷◌, ◌++◌, true, false, if◌then◌else◌, List, map, IfOk, OnOk};
 ghost use Rattle.script_reader.specs.Bodies.{scripts_with};
 ghost use Rattle.script_reader.specs.Files.{Told, body, scripts_of};
+ghost use Rattle.script_reader.specs.Files as spec;
 
 use crate::faults::{Kind, ReadRefusal};
 use crate::gather::begins_with;
@@ -10,6 +11,16 @@ use std::alloc::Global;
 use std::mem;
 use unix_calls::{Script, Statement};
 use unix_names::Seq;
+
+// The statement that a line says, where it has no fault.
+fn said(read: &Result<Item, Kind>) -> Option<Statement>
+    ensures { result ≡ spec.said read.now }
+{
+    match read {
+        Ok(Item::Says(statement)) => Some(*statement),
+        _ => None,
+    }
+}
 
 /// The scripts of the lines so far: those before the last one, and the statements of the last one, if one has begun.
 #[derive(Drop)]
@@ -44,8 +55,11 @@ impl Bodies {
     {
         if begins_with(words, "script") {
             self.begin(alloc)?;
-        } else if let Ok(Item::Says(statement)) = read {
-            self.last.push(*statement)?;
+        } else {
+            match said(read) {
+                Some(statement) => self.last.push(statement)?,
+                None => {}
+            }
         }
         Ok(())
     }

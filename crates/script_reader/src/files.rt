@@ -7,15 +7,16 @@ ghost use Rattle.script_reader.specs.declared.faults.Fault.{Fault};
 ghost use Rattle.script_reader.specs.Files as spec;
 
 use crate::bodies::Bodies;
-use crate::faults::{Fault, Kind, ReadRefusal};
+use crate::faults::{Kind, ReadRefusal};
 use crate::gather::{gather, lines_of};
-use crate::lines::{Item, StartLine, is_utf8, place_after, read_line};
+use crate::lines::{is_utf8, place_after, read_line};
 use crate::names::Names;
 use crate::places::{FIRST_PLACE, Place};
+use crate::starts::{Starts, bad};
 use byte_ends::words_of;
 use std::alloc::Global;
-use unix_calls::{Script, Start, Work, World, script_work, work_of};
-use unix_names::{NodeId, PIDS_PER_NODE, Pid, Seq};
+use unix_calls::{Script, Start, Work, World, script_work};
+use unix_names::Seq;
 
 pub fn read_part(alloc: Global, lines: &[&[u8]], first_line: u32) -> Result<World, ReadRefusal>
     requires short { length lines.now < 2 ^ 31 }
@@ -90,54 +91,17 @@ fn judged<'a>(
     ensures bad { (fault : Fault) → result ≡ Err (ReadRefusal.Bad fault)
         → spec.judged works.now [] first_line (spec.tells names.now spec.first_place (map (λ l. l.now) lines.now)) ≡ Err fault }
 {
-    let mut starts = Seq::new(alloc);
-    let mut total = Work::NONE;
+    let mut starts = Starts::new(alloc);
     let mut place = FIRST_PLACE;
     let mut number = first_line;
     for line in lines {
         let words = words_of(alloc, *line)?;
         let read = read_line(names, &place, *line, &words);
-        match &read {
-            Err(kind) => return Err(bad(number, *kind)),
-            Ok(Item::Starts(start)) => {
-                total = total.and(work_of(works, start.script));
-                if !total.is_little() {
-                    return Err(bad(number, Kind::TooMuchWork));
-                }
-                let start = start_of(starts.as_slice(), *start);
-                starts.push(start)?;
-            }
-            Ok(_) => {}
-        }
+        starts.take_line(works, number, &read)?;
         place = place_after(place, &words, read);
         number += 1;
     }
-    Ok(starts)
-}
-
-fn bad(line: u32, kind: Kind) -> ReadRefusal
-    ensures { result ≡ ReadRefusal.Bad (spec.fault_at line kind) }
-{
-    ReadRefusal::Bad(Fault { line, kind })
-}
-
-// A start behind earlier ones, with its pid.
-#[tactic(auto, unfolding(crate::specs::Files::start_of))]
-fn start_of(earlier: &[Start], line: StartLine) -> Start
-    requires few { length earlier.now < 2 ^ 31 }
-    requires node { line.node < 64 }
-    ensures { result ≡ spec.start_of earlier.now line }
-{
-    let node = NodeId(line.node);
-    let at_node = earlier.iter().filter(|start| start.node == node).count();
-    Start {
-        node,
-        script: line.script,
-        var: line.var,
-        pid: Pid(PIDS_PER_NODE * line.node + 2 + at_node as u32),
-        uid: line.uid,
-        joined: line.joined,
-    }
+    Ok(starts.list)
 }
 
 // What is wrong with a part in which no line says anything.

@@ -9,6 +9,7 @@ mod gather;
 mod lines;
 mod names;
 mod places;
+mod starts;
 mod statements;
 mod words;
 
