@@ -7,4 +7,3 @@ pub mod Names
 pub mod Starts
 pub mod Statements
 pub mod Words
-pub mod Written

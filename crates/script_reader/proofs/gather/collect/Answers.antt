@@ -10,9 +10,9 @@ pub returns-in_ok-push : goal.returns-in_ok-push
 returns-in_ok-push c =
     let row = map (λ w. w.now) c.args.words.now in
     let old = map (λ w. w.now) c.args.found.now.items in
-    let yes : begins_with c.args.first.now row ≡ true = sym c.begins_with.ensures ∙ c.if-begins_with.true in
+    let holds : begins_with c.args.first.now row ≡ true = sym c.begins_with.ensures ∙ c.if-begins_with.true in
     let pushed : c.push.new.self.items ≡ c.args.found.now.items ++ c.word_at.result ∷ [] = grind (arith, common_steps) in
-    ap (map (λ w. w.now)) pushed ∙ map-append (λ w. w.now) c.args.found.now.items (c.word_at.result ∷ []) ∙ ap (λ (ws : List Word). old ++ ws) (ap (λ (w : Word). w ∷ []) c.word_at.ensures ∙ sym (words_behind-yes c.args.first.now c.args.at row yes))
+    ap (map (λ w. w.now)) pushed ∙ map-append (λ w. w.now) c.args.found.now.items (c.word_at.result ∷ []) ∙ ap (λ (ws : List Word). old ++ ws) (ap (λ (w : Word). w ∷ []) c.word_at.ensures ∙ sym (words_behind-yes c.args.first.now c.args.at row holds))
 
 pub returns-else-begins_with : goal.returns-else-begins_with
 returns-else-begins_with c =
