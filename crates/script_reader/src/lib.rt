@@ -14,5 +14,5 @@ mod statements;
 mod words;
 
 pub use faults::{Fault, Kind, ReadRefusal};
-pub use files::read_part;
+pub use files::read_file;
 pub use form::{FormRefusal, read_form};
