@@ -1,19 +1,18 @@
 -- reading the lines of a text one after another, up to the first that passes a test
-use Rattle.std.proofs.Common.{◌⊎◌, ◌≡◌, ℕ, ◌+◌, ◌-◌, ◌<◌, ◌≤◌, min, Bool, true, false, cond, not, ◌==◌, ◌&&◌, List, [], ◌∷◌, ◌++◌, length, take, drop, get_or, map, Option, Some, None, subst, refl, ap, sym, ◌∙◌, arith, append_assoc, append-nil, length-append, take-append-drop, inl, inr}
+use Rattle.std.proofs.Common.{◌⊎◌, ◌≡◌, ℕ, ◌+◌, ◌-◌, ◌<◌, ◌≤◌, Bool, true, false, cond, not, ◌==◌, ◌&&◌, List, [], ◌∷◌, ◌++◌, length, take, drop, get_or, Option, Some, None, subst, refl, ap, sym, ◌∙◌, arith, append_assoc, append-nil, length-append, take-append-drop, inl, inr}
 use Rattle.std.specs.Prelude.{slice_range}
-use Rattle.std.specs.List.{list_all, position_or_len, before_first, after_first, take_while}
+use Rattle.std.specs.List.{list_all, position_or_len, before_first}
 use Rattle.std.specs.Str.{bytes_eq}
 use borrow.Author.Tests.{eqb-true}
 use Rattle.std.proofs.lemmas.Bool.{ne_eqb}
-use Rattle.std.proofs.lemmas.Bool.Decides.{nat_tests}
-use Rattle.std.proofs.lemmas.List.Sums.{take_while-cons, split_at_first, fails_before_first, passes_at_first}
+use Rattle.std.proofs.lemmas.List.Sums.{take_while-cons, fails_before_first, passes_at_first}
 use Rattle.std.proofs.lemmas.List.{drop-drop, drop-take, drop_all, take_all, take_more}
 use Rattle.std.proofs.lemmas.Grind.{common_steps}
-use Rattle.byte_ends.specs.Text.{is_newline, lines, line_length, strip_return, words}
+use Rattle.byte_ends.specs.Text.{is_newline, lines, line_length, strip_return}
 use Rattle.byte_ends.proofs.Lines.{take-two, line_length-found}
 use Rattle.text_laws.proofs.Lines.{IsOneLine, lines-newline}
 use Rattle.file_parts.specs.declared.parts.Span.{Span}
-use Rattle.file_parts.specs.Parts.{Lines, IsPart, IsPartOf, before, behind, is_only, stands_alone}
+use Rattle.file_parts.specs.Parts.{Lines, IsPartOf, before, behind, stands_alone}
 
 -- a text ends a line where the lines of what stands behind it come after its own
 abbrev pub EndsLine : List ℕ → Type 0
