@@ -94,3 +94,8 @@ turn_line turn = turn_word turn ++ spaced (turn_words turn)
 -- the text of a schedule: a line for each turn
 abbrev pub schedule_text : List Turn → List ℕ
 schedule_text turns = flat_map (λ t. turn_line t ++ 10 ∷ []) turns
+
+-- for how many turns some turns stand
+abbrev pub turns_total : List Turn → ℕ
+turns_total [] = 0
+turns_total (t ∷ ts) = turns_in t + turns_total ts

@@ -2,6 +2,7 @@
 #![tactic(auto)]
 
 mod history;
+pub mod laws;
 mod schedule;
 #[cfg(test)]
 mod tests;

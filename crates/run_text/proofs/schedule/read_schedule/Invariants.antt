@@ -8,7 +8,7 @@ abbrev pub invariant-loop-from : goal.invariant-loop-from
 invariant-loop-from l = record {
   within : l.at ≤ length l.text;
   kept : fold (after_line l.nodes) (Ok (record { turns = l.turns.items; count = l.count; number = l.line })) (lines (drop l.at l.text))
-  ≡ fold (after_line l.nodes) (Ok (record { turns = []; count = 0; number = l.fn.part.first_line })) (lines l.text);
+      ≡ fold (after_line l.nodes) (Ok (record { turns = []; count = 0; number = l.fn.part.first_line })) (lines l.text);
   number : l.line ≤ l.fn.part.first_line + l.at;
   few : l.count ≤ 200000;
   nodes : All (HasNodes l.nodes) l.turns.items;
