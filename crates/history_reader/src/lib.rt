@@ -1,12 +1,7 @@
 //! Histories read back: which entries the lines of a text mean, or the first line that is bad.
 #![tactic(auto)]
 
-mod entries;
-mod loose;
-mod reader;
-#[cfg(test)]
-mod tests;
 mod verbs;
 mod words;
 
-pub use reader::{TextRefusal, read_history};
+pub use verbs::{Verb, verb_named};

@@ -1,5 +1,5 @@
 -- reading a schedule line by line
-use Rattle.std.proofs.Common.{◌≡◌, ℕ, ◌+◌, List, [], ◌∷◌, ◌++◌, fold, Option, Some, None, Result, Ok, Err, refl, ap, sym, ◌∙◌, subst}
+use Rattle.std.proofs.Common.{◌≡◌, ℕ, List, [], ◌∷◌, fold, Option, Result, Ok, Err, refl, ap, sym, ◌∙◌}
 use Rattle.script_reader.specs.declared.Kind.{Kind}
 use Rattle.script_reader.specs.declared.Fault.{Fault}
 use Rattle.run_text.specs.Schedule.{SoFar, added, after_line, read_turn, turns_of}

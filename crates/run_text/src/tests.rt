@@ -1,10 +1,16 @@
+ghost use Rattle.std.specs.Prelude.{◌≡◌, length};
+
 use crate::{put_schedule, read_schedule};
 use file_parts::Span;
 use script_reader::{Fault, Kind, ReadRefusal};
 use std::test::Fail;
 use unix_calls::Turn;
 
-fn whole(text: &[u8]) -> Span {
+fn whole(text: &[u8]) -> Span
+    ensures from { result.from ≡ 0 }
+    ensures to { result.to ≡ length text.now }
+    ensures first { result.first_line ≡ 1 }
+{
     Span {
         from: 0,
         to: text.len(),

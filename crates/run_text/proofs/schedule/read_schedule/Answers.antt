@@ -1,10 +1,10 @@
-use Rattle.std.proofs.Common.{◌≡◌, [], ◌∷◌, drop, length, Ok, Err, fold, sym, ap, ◌∙◌, arith, rules}
+use Rattle.std.proofs.Common.{◌≡◌, [], ◌∷◌, drop, length, Err, ap, ◌∙◌, arith, rules}
 use Rattle.std.specs.Prelude.{slice_range}
 use Rattle.std.proofs.lemmas.List.{drop_all}
 use Rattle.std.proofs.lemmas.Grind.{common_steps}
 use Rattle.byte_ends.specs.Text.{lines}
 use Rattle.script_reader.specs.declared.Fault.{Fault}
-use Rattle.run_text.specs.Schedule.{SoFar, after_line, read_turn, schedule}
+use Rattle.run_text.specs.Schedule.{SoFar, read_turn, schedule}
 use Rattle.run_text.proofs.Turns.{stops, ends}
 use Rattle.run_text.proofs.schedule.read_schedule.Goals as goal
 

@@ -1,7 +1,7 @@
 use Rattle.std.proofs.Common.{◌≡◌, ◌+◌, ◌-◌, ◌≤◌, [], length, drop, fold, Ok}
 use Rattle.std.specs.Prelude.{All}
 use Rattle.byte_ends.specs.Text.{lines}
-use Rattle.run_text.specs.Schedule.{SoFar, after_line, HasNodes}
+use Rattle.run_text.specs.Schedule.{after_line, HasNodes}
 use Rattle.run_text.proofs.schedule.read_schedule.Given as goal
 
 abbrev pub invariant-loop-from : goal.invariant-loop-from

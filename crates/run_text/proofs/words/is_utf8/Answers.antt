@@ -1,4 +1,4 @@
-use Rattle.std.proofs.Common.{◌≡◌, ◌∙◌}
+use Rattle.std.proofs.Common.{◌∙◌}
 use Rattle.run_text.proofs.Texts.{text_found}
 use Rattle.run_text.proofs.words.is_utf8.Goals as goal
 
