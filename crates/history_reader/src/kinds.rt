@@ -1,5 +1,5 @@
 // What a line is beside an entry.
-ghost use Rattle.std.specs.Prelude.{◌≡◌, map};
+ghost use Rattle.std.specs.Prelude.{◌≡◌, ◌||◌, codes, map};
 ghost use Rattle.script_reader.specs.Lines.{is_skipped as says_nothing, begins_with_hash};
 ghost use Rattle.file_parts.specs.Parts.{stands_alone};
 
@@ -34,4 +34,11 @@ pub fn is_only(words: &[&[u8]], text: &str) -> bool
         [only] => is_word(only, text),
         _ => false,
     }
+}
+
+/// Whether a line of these words is the last one of a history.
+pub fn is_last(words: &[&[u8]]) -> bool
+    ensures { let ws = map (λ w. w.now) words.now in result ≡ (stands_alone (codes "quiet") ws || stands_alone (codes "open") ws) }
+{
+    is_only(words, "quiet") || is_only(words, "open")
 }

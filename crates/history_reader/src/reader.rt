@@ -5,7 +5,7 @@ ghost use Rattle.history_reader.specs.declared.reader.TextRefusal.TheVariants.{N
 ghost use Rattle.history_reader.specs.Reading.{IsHistory, IsFirstBad, IsEndBad, Ends};
 
 use crate::entries::entry_of;
-use crate::kinds::{is_only, is_skipped};
+use crate::kinds::{is_last, is_only, is_skipped};
 use byte_ends::{next_line, words_of};
 use file_parts::Span;
 use std::alloc::{AllocError, AllocFailed, Global};
@@ -61,7 +61,7 @@ pub fn read_history(alloc: Global, bytes: &[u8], part: Span) -> Result<Vec<Entry
             if is_only(&words, "schedule") {
                 return Ok(entries);
             }
-            if is_only(&words, "quiet") || is_only(&words, "open") {
+            if is_last(&words) {
                 ends(alloc, text, next, number + 1)?;
                 return Ok(entries);
             }
