@@ -3,6 +3,7 @@
 
 mod entries;
 mod kinds;
+pub mod laws;
 mod loose;
 mod reader;
 #[cfg(test)]
