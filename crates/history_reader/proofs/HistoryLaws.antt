@@ -11,7 +11,7 @@ yes : (b : Bool) (P Q : Type 0) → b ≡ true → P → MatchBool b P Q
 yes true P Q e p = p
 yes false P Q e p = absurd (cc)
 
-no : (b : Bool) (P Q : Type 0) → b ≡ false → Q → MatchBool b P Q
+pub no : (b : Bool) (P Q : Type 0) → b ≡ false → Q → MatchBool b P Q
 no true P Q e q = absurd (cc)
 no false P Q e q = q
 
