@@ -16,7 +16,7 @@ use Rattle.script_laws.specs.Grammar.{IsName, IsCalled, AreNames, IsFor}
 pub for_decimal : (n : ℕ) → n < 2 ^ 32 → IsFor (decimal n) n
 for_decimal n lt = (IsNumber-decimal n lt, digits_value-decimal n lt)
 
-all_digits : (n : ℕ) → n < 2 ^ 32 → list_all is_digit (decimal n) ≡ true
+pub all_digits : (n : ℕ) → n < 2 ^ 32 → list_all is_digit (decimal n) ≡ true
 unfolding is_number
 all_digits n lt =
     let e : is_number (decimal n) ≡ true = (is_number-decides (decimal n)).1 (IsNumber-decimal n lt) in

@@ -30,3 +30,4 @@ pub mod Masks
 pub mod Chosen
 pub mod Spelled
 pub mod Rows
+pub mod Solid
