@@ -1,6 +1,6 @@
 -- the names under which worlds are written
-use Rattle.std.proofs.Common.{◌≡◌, ◌==◌, ◌&&◌, ◌||◌, ℕ, zero, suc, ◌+◌, ◌<◌, ◌≤◌, ◌^◌, Bool, true, false, List, [], ◌∷◌, ◌++◌, length, refl, sym, ap, ◌∙◌, subst, arith, Option, Some, None, All, ltb}
-use Rattle.std.specs.Prelude.{codes, slice_get, get_or, nat_le}
+use Rattle.std.proofs.Common.{◌≡◌, ◌&&◌, ℕ, zero, suc, ◌+◌, ◌<◌, ◌≤◌, ◌^◌, true, false, List, [], ◌∷◌, length, refl, sym, ap, ◌∙◌, subst, arith, Some, All, ltb}
+use Rattle.std.specs.Prelude.{codes, get_or, nat_le}
 use Rattle.std.specs.List.{list_all}
 use Rattle.std.specs.Fmt.{decimal}
 use Rattle.std.specs.Str.Parse.{digits_value}
@@ -32,9 +32,9 @@ not_word c ds b bs d n e = let same : ds ≡ bs = cc in let h : list_all is_digi
 
 free : (c : ℕ) (ds : Word) → list_all is_digit ds ≡ true → All (λ r. c ∷ ds ≡ r → ⊥) reserved
 free c ds d = All-from_recursion (λ r. c ∷ ds ≡ r → ⊥) reserved (
-      not_word c ds 115 (codes "elf") d refl,
-      (not_word c ds 109 (codes "aker") d refl, (not_word c ds 110 (codes "one") d refl, (not_word c ds 97 (codes "ny") d refl, (not_word c ds 97 (codes "t") d refl, (not_word c ds 101 (codes "nd") d refl, (not_word c ds 115 (codes "topped") d refl, (not_word c ds 99 (codes "ontinued") d refl, tt))))))),
-    )
+  not_word c ds 115 (codes "elf") d refl,
+  (not_word c ds 109 (codes "aker") d refl, (not_word c ds 110 (codes "one") d refl, (not_word c ds 97 (codes "ny") d refl, (not_word c ds 97 (codes "t") d refl, (not_word c ds 101 (codes "nd") d refl, (not_word c ds 115 (codes "topped") d refl, (not_word c ds 99 (codes "ontinued") d refl, tt))))))),
+)
 
 -- a letter and a number are a name
 pub letter_name : (c n : ℕ) → is_lower c ≡ true → n < 2 ^ 32 → IsName (c ∷ decimal n)

@@ -31,3 +31,4 @@ pub mod Chosen
 pub mod Spelled
 pub mod Rows
 pub mod Solid
+pub mod Back

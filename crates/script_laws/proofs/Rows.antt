@@ -1,24 +1,21 @@
 -- the rows of a written world are a part of the grammar
-use Rattle.std.proofs.Common.{◌≡◌, ◌==◌, ◌++◌, ◌⊎◌, inl, inr, ℕ, zero, suc, ◌+◌, ◌-◌, ◌*◌, ◌<◌, ◌≤◌, ◌^◌, Bool, true, false, cond, List, [], ◌∷◌, length, length-append, take, refl, sym, ap, ◌∙◌, subst, arith, Option, Some, None, All, append_assoc}
-use Rattle.std.specs.Prelude.{codes, slice_get, get_or, map, IfSome}
-use Rattle.std.specs.List.{flat_map, filter_map, cons_option}
-use Rattle.std.specs.Str.{is_utf8}
+use Rattle.std.proofs.Common.{◌≡◌, ◌==◌, ◌++◌, inl, inr, ℕ, zero, suc, ◌+◌, ◌<◌, ◌≤◌, ◌^◌, Bool, true, false, cond, List, [], ◌∷◌, length, take, refl, sym, ap, ◌∙◌, subst, arith, Option, Some, None, All, append_assoc}
+use Rattle.std.specs.Prelude.{codes, slice_get, map, IfSome}
 use Rattle.std.specs.Fmt.{decimal}
 use Rattle.std.proofs.lemmas.Bool.{eqb-true}
-use Rattle.std.proofs.lemmas.List.{length-take, length-map}
+use Rattle.std.proofs.lemmas.List.{length-take}
 use Rattle.std.proofs.lemmas.List.Elements.{All-head, All-tail}
 use Rattle.std.proofs.lemmas.Option.{slice_get_within, get_or_from_slice_get}
-use Rattle.byte_ends.specs.Text.{words}
 use Rattle.unix_calls.specs.declared.Script.{Script}
 use Rattle.unix_calls.specs.declared.Start.{Start}
 use Rattle.unix_calls.specs.declared.Statement.{Statement}
 use Rattle.unix_calls.specs.declared.World.{World}
-use Rattle.unix_calls.specs.Valid.{IsStatement, IsStart, IsValid}
+use Rattle.unix_calls.specs.Valid.{IsStatement}
 use Rattle.script_reader.specs.Words.{Word, Row}
-use Rattle.script_writer.specs.Written.{script_name, variable_name, statement_words, script_rows, scripts_rows, uid_words, with_words, joined_words, start_row, file_rows}
-use Rattle.script_laws.specs.Writable.{IsWrittenStatement, assigned, assigned_by, variables_of, AreInOrder, IsWritable}
-use Rattle.script_laws.specs.Grammar.{Naming, IsCalled, IsFor, IsUser, Joins, Spells, SpellsStart, Lines, Part, ends, starts, begins, says, closes, opens, IsFile}
-use Rattle.script_laws.proofs.Chosen.{for_decimal, names_from, names_long, chosen}
+use Rattle.script_writer.specs.Written.{script_name, variable_name, statement_words, scripts_rows, uid_words, with_words, joined_words, start_row, file_rows}
+use Rattle.script_laws.specs.Writable.{IsWrittenStatement, IsWritable}
+use Rattle.script_laws.specs.Grammar.{Naming, IsUser, Joins, SpellsStart, Lines, Part, ends, starts, begins, says, closes, opens}
+use Rattle.script_laws.proofs.Chosen.{for_decimal, names_from}
 use Rattle.script_laws.proofs.Spelled.{naming_of, variable_called, script_called, statement_spelled}
 
 user_spelled : (uid : ℕ) → uid < 2 ^ 32 → IsUser (uid_words uid) uid
@@ -28,12 +25,12 @@ user_spelled uid lt = go (uid == 0) refl
     go true e = inl (refl, eqb-true uid 0 e)
     go false e = inr (decimal uid, refl, for_decimal uid lt)
 
-exists_at : (xs : List Start) (j : ℕ) → j < length xs → (s : Start) × (slice_get xs j ≡ Some s)
+pub exists_at : (xs : List Start) (j : ℕ) → j < length xs → (s : Start) × (slice_get xs j ≡ Some s)
 exists_at [] j lt = absurd (omega arith)
 exists_at (x ∷ xs) zero lt = (x, refl)
 exists_at (x ∷ xs) (suc j) lt = exists_at xs j (omega arith)
 
-at_place : {X : Type 0} (P : X → Type 0) (xs : List X) (k : ℕ) (x : X) → All P xs → slice_get xs k ≡ Some x → P x
+pub at_place : {X : Type 0} (P : X → Type 0) (xs : List X) (k : ℕ) (x : X) → All P xs → slice_get xs k ≡ Some x → P x
 at_place P xs k x all e = subst P (get_or_from_slice_get xs k x x e) (all k x (slice_get_within xs k x e))
 
 shape : (h : Row) (a : List Row) (e : Row) (r t : List Row) → ((h ∷ a ++ e ∷ []) ++ r) ++ t ≡ h ∷ a ++ e ∷ (r ++ t)
@@ -55,7 +52,7 @@ module _ (world : World) (w : IsWritable world) where
   earlier_all None k lt = lt
   earlier_all (Some j) k lt = omega (arith, length-take k world.starts)
 
-  start_fits : (k : ℕ) (s : Start) → slice_get world.starts k ≡ Some s → FitsStart s
+  pub start_fits : (k : ℕ) (s : Start) → slice_get world.starts k ≡ Some s → FitsStart s
   start_fits k s e = let v = w.valid.starts k s e in record { node = v.node; script = v.script; var = v.var; uid = at_place (λ x. x.uid < 2 ^ 32) world.starts k s w.users e; joined = earlier_all s.joined k v.joined }
 
   joined_spelled : (o : Option ℕ) → IfSome o (λ j. j < length world.starts) → ((s : Start) (k : ℕ) → slice_get world.starts k ≡ Some s → s.var < world.vars) → Joins Own world.starts (joined_words world.starts o) o

@@ -1,22 +1,15 @@
 -- the words of a written world stand in its lines as they are
-use Rattle.std.proofs.Common.{◌≡◌, ◌==◌, ◌&&◌, ◌++◌, ℕ, zero, suc, ◌+◌, ◌<◌, ◌≤◌, ◌^◌, Bool, true, false, cond, List, [], ◌∷◌, length, refl, sym, ap, ◌∙◌, subst, arith, Option, Some, None, All}
-use Rattle.std.specs.Prelude.{codes, slice_get, map, filter, nat_le, nat_lt, IfSome}
+use Rattle.std.proofs.Common.{◌≡◌, ◌&&◌, ◌++◌, ℕ, ◌<◌, ◌≤◌, ◌^◌, Bool, true, false, List, [], ◌∷◌, length, refl, sym, ap, ◌∙◌, arith, All}
+use Rattle.std.specs.Prelude.{map, nat_le, nat_lt}
 use Rattle.std.specs.List.{list_all, flat_map}
-use Rattle.std.specs.Str.{IsAscii, IsUtf8, is_utf8}
+use Rattle.std.specs.Str.{IsAscii, is_utf8}
 use Rattle.std.specs.Fmt.{decimal}
 use Rattle.std.proofs.lemmas.Bool.{and_parts, leb-true, le-leb, lt-ltb, ltb-true}
-use Rattle.std.proofs.lemmas.List.Elements.{All-nil, All-cons, All-head, All-tail}
+use Rattle.std.proofs.lemmas.List.Elements.{All-nil, All-cons}
 use Rattle.std.proofs.lemmas.List.{append-nil}
 use Rattle.std.proofs.lemmas.Str.{IsUtf8-from_ascii, is_utf8-from_IsUtf8, IsAscii-append}
-use Rattle.std.proofs.lemmas.Str.Ascii.{IsAscii-nil, IsAscii-cons, IsAscii-from_all}
+use Rattle.std.proofs.lemmas.Str.Ascii.{IsAscii-nil, IsAscii-cons}
 use Rattle.byte_ends.specs.Text.{lines, words}
-use Rattle.unix_names.specs.declared.NodeId.{NodeId}
-use Rattle.unix_names.specs.declared.Signal.{Signal}
-use Rattle.unix_names.specs.declared.Signal.TheVariants.{Hup}
-use Rattle.unix_names.specs.declared.Act.{Act}
-use Rattle.unix_names.specs.declared.Act.TheVariants.{Default, Ignore, Catch}
-use Rattle.unix_names.specs.Signals.{word_of, signal_of, all_signals}
-use Rattle.unix_names.specs.Sets.{has}
 use Rattle.text_laws.specs.Plain.{is_visible, is_plain, are_plain}
 use Rattle.text_laws.proofs.Words.{words-spaced, line-spaced}
 use Rattle.text_laws.proofs.Lines.{IsLine, AreLines, lines-written}

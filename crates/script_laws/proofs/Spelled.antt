@@ -1,8 +1,7 @@
 -- the rows of a written world are of the grammar
-use Rattle.std.proofs.Common.{◌≡◌, ◌==◌, ◌++◌, inl, inr, ℕ, zero, suc, ◌+◌, ◌-◌, ◌<◌, ◌≤◌, ◌^◌, Bool, true, false, cond, List, [], ◌∷◌, length, refl, sym, ap, ◌∙◌, subst, arith, Option, Some, None, All, append_assoc, add-one}
-use Rattle.std.specs.Prelude.{codes, slice_get, map, IfSome}
+use Rattle.std.proofs.Common.{◌≡◌, inl, inr, ℕ, ◌+◌, ◌<◌, ◌≤◌, ◌^◌, Bool, true, false, [], ◌∷◌, length, refl, ap, ◌∙◌, arith, Option, Some, None}
+use Rattle.std.specs.Prelude.{codes, IfSome}
 use Rattle.std.specs.Fmt.{decimal}
-use Rattle.std.proofs.lemmas.List.Elements.{All-head, All-tail}
 use Rattle.unix_names.specs.declared.NodeId.{NodeId}
 use Rattle.unix_names.specs.declared.Signal.{Signal}
 use Rattle.unix_names.specs.declared.Act.{Act}
@@ -11,19 +10,17 @@ use Rattle.unix_names.specs.Signals.{signal_of}
 use Rattle.unix_names.proofs.SignalLaws.{number_of-signal_of}
 use Rattle.unix_calls.specs.declared.Arg.{Arg}
 use Rattle.unix_calls.specs.declared.Arg.TheVariants.{Zero, One, Nobody, Own, Maker, Var}
-use Rattle.unix_calls.specs.declared.Script.{Script}
-use Rattle.unix_calls.specs.declared.Start.{Start}
 use Rattle.unix_calls.specs.declared.Statement.{Statement}
 use Rattle.unix_calls.specs.declared.Statement.TheVariants as statement
 use Rattle.unix_calls.specs.declared.World.{World}
-use Rattle.unix_calls.specs.Valid.{IsNode, IsArgument, IsStatement, IsStart, IsValid}
+use Rattle.unix_calls.specs.Valid.{IsNode, IsArgument, IsStatement, IsValid}
 use Rattle.script_reader.specs.Words.{Word, Row}
-use Rattle.script_writer.specs.Written.{script_name, variable_name, arg_word, target_word, selector_word, change_words, signal_or_number, act_word, site_words, wait_word, set_words, statement_words, script_rows, scripts_rows, uid_words, with_words, joined_words, start_row, file_rows}
-use Rattle.script_laws.specs.Writable.{IsTarget, IsWanted, IsSelector, IsWrittenStatement, IsWritable}
+use Rattle.script_writer.specs.Written.{script_name, variable_name, arg_word, target_word, selector_word, change_words, signal_or_number, act_word, site_words, wait_word, set_words, statement_words}
+use Rattle.script_laws.specs.Writable.{IsTarget, IsWanted, IsSelector, IsWrittenStatement}
 use Rattle.script_laws.specs.Grammar.{Naming, IsCalled, IsFor, IsArg, Targets, Wants, Selects, IsForSignalNumber, IsSite, IsUser, Joins, Spells, SpellsStart, Lines, Part, ends, skips, starts, begins, says, closes, opens}
 use Rattle.script_laws.specs.Grammar as grammar
 use Rattle.script_laws.proofs.Masks.{set_spelled}
-use Rattle.script_laws.proofs.Chosen.{for_decimal, names_from, names_long, name_at}
+use Rattle.script_laws.proofs.Chosen.{for_decimal, names_from, name_at}
 
 -- the names that are written
 abbrev pub naming_of : World → Naming
