@@ -14,3 +14,6 @@ pub mod Played
 pub mod Turns
 pub mod First
 pub mod Runs
+pub mod Members
+pub mod Unsent
+pub mod Alike
