@@ -57,7 +57,7 @@ none_or false o = inr refl
 
 module _ (rows : List Row) (r : Row) (distinct : AreDistinct rows) (here : row_of rows r.pid ≡ Some r) where
   -- ---- a setpgid that is not told of
-  named : (t : ℕ) (c : Row) → row_of rows c.pid ≡ Some c → is_pid (target_pid r t) c ≡ true → row_named rows r t ≡ Some c
+  pub named : (t : ℕ) (c : Row) → row_of rows c.pid ≡ Some c → is_pid (target_pid r t) c ≡ true → row_named rows r t ≡ Some c
   named t c there is = go (t == 0) is
     where
       go : (b : Bool) → is_pid (cond b r.pid (pid t)) c ≡ true → cond b (Some r) (row_of rows (pid t)) ≡ Some c

@@ -17,3 +17,4 @@ pub mod Runs
 pub mod Members
 pub mod Unsent
 pub mod Alike
+pub mod Listing
