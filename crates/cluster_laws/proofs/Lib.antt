@@ -18,3 +18,4 @@ pub mod Members
 pub mod Unsent
 pub mod Alike
 pub mod Listing
+pub mod Waits
