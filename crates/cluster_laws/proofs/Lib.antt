@@ -19,3 +19,6 @@ pub mod Unsent
 pub mod Alike
 pub mod Listing
 pub mod Waits
+pub mod Parking
+pub mod Resting
+pub mod Rested
