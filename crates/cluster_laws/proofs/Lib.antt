@@ -22,3 +22,5 @@ pub mod Waits
 pub mod Parking
 pub mod Resting
 pub mod Rested
+pub mod Parked
+pub mod Finishing

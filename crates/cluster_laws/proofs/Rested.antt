@@ -69,17 +69,17 @@ module _ (world : World) (p : Played) (stands : Stands world p) (image : Image) 
   abbrev next : List Entry
   next = p.history ++ entry ∷ []
 
-  acts : row_of rows (process_of entry) ≡ Some r
+  pub acts : row_of rows (process_of entry) ≡ Some r
   acts = ap (row_of rows) is.process ∙ here
 
   pub table_next : after_all world next ≡ now
   table_next = table-push (boot world) p.history entry ∙ ap (λ t. after t entry) (sym stands.table) ∙ after_is rows entry r acts
 
-  listed_now : AreListed now groups
+  pub listed_now : AreListed now groups
   listed_now = listed_after rows r stands.sound.distinct here p.machine.groups listed entry
 
   -- no fork gives the number of a process that is there
-  no_fork : (q : Pid) (c : Row) → row_of rows q ≡ Some c → IsNoForkOf entry q.0
+  pub no_fork : (q : Pid) (c : Row) → row_of rows q ≡ Some c → IsNoForkOf entry q.0
   no_fork q c e n forks =
       let n_is = chosen_number world image rows r p.machine.serial entry is n forks in
       let below = (stands.given q c e).pid in
