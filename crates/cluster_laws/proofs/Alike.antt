@@ -1,12 +1,11 @@
 -- what an entry leaves of the rows of the children of one who is not told of it
-use Rattle.std.proofs.Common.{◌≡◌, ◌≢◌, ◌==◌, ◌&&◌, ◌||◌, ◌%◌, ◌⊎◌, inl, inr, ◌++◌, ℕ, ℤ, pos, negsuc, Bool, true, false, cond, not, List, [], ◌∷◌, refl, sym, ap, ◌∙◌, subst, Option, None, Some}
+use Rattle.std.proofs.Common.{◌≡◌, ◌==◌, ◌||◌, ◌⊎◌, inl, inr, ℕ, ℤ, pos, negsuc, Bool, true, false, cond, not, List, [], ◌∷◌, refl, sym, ap, ◌∙◌, subst, Option, None, Some}
 use Rattle.std.specs.Prelude.{map}
 use Rattle.std.specs.Option.{option_or}
-use Rattle.std.proofs.lemmas.Bool.{eqb-true, or_left, ne_eqb}
+use Rattle.std.proofs.lemmas.Bool.{eqb-true, or_left}
 use Rattle.unix_names.specs.declared.Pid.{Pid}
 use Rattle.unix_names.specs.declared.Act.{Act}
 use Rattle.unix_names.specs.declared.Signal.{Signal}
-use Rattle.unix_names.specs.declared.WaitStatus.{WaitStatus}
 use Rattle.unix_names.specs.Signals.{signal_of}
 use Rattle.unix_calls.specs.declared.Call.{Call}
 use Rattle.unix_calls.specs.declared.Call.TheVariants.{Getpid, Getppid, Getpgid, Getsid, Fork, Exec, Exit, Waitpid, Kill, Setpgid, Setsid, Action, Mask, Pending, Migrate}
@@ -21,18 +20,14 @@ use Rattle.unix_calls.specs.Calls.{target_of}
 use Rattle.list_laws.proofs.Filters.{some_same}
 use Rattle.list_laws.proofs.Finding.{at-append, comes-map, comes-append, same_number}
 use Rattle.kernel_rules.specs.declared.rows.Row.{Row}
-use Rattle.kernel_rules.specs.Rows.{pid, is_pid, is_same, is_parent, row_of, row_named, AreDistinct}
+use Rattle.kernel_rules.specs.Rows.{pid, is_pid, is_same, row_of, row_named, AreDistinct}
 use Rattle.kernel_rules.specs.Refusals.{target_pid, wanted_group}
 use Rattle.kernel_model.specs.Sent.{receives, sent_by_kill}
 use Rattle.kernel_model.specs.Events.{delivered_at, after_event}
 use Rattle.kernel_model.specs.Changes.{is_among}
-use Rattle.kernel_model.specs.declared.verdict.Verdict.TheVariants.{Legal}
-use Rattle.kernel_model.specs.Sound.{IsSound}
-use Rattle.kernel_model.specs.Step.{process_of, verdict, row_verdict, after, newborn, execed_at, is_ended_at, reported_at, regrouped_at, leading_at, acting_at, masked_at, after_fork, after_wait, after_kill, after_setpgid, after_setsid, after_action, after_call, row_after}
-use Rattle.kernel_laws.specs.Effects.{is_end, is_report_of, IsSignalled}
-use Rattle.kernel_laws.proofs.Rows.{number, pid_same, row_pid, one_row, comes, mapped_is, moved_is}
-use Rattle.kernel_laws.proofs.Others.{others_signalled}
-use Rattle.kernel_laws.proofs.Legal.{after_is}
+use Rattle.kernel_model.specs.Step.{newborn, execed_at, is_ended_at, reported_at, regrouped_at, leading_at, acting_at, masked_at, after_fork, after_wait, after_kill, after_setpgid, after_setsid, after_action, after_call, row_after}
+use Rattle.kernel_laws.specs.Effects.{IsSignalled}
+use Rattle.kernel_laws.proofs.Rows.{number, pid_same, one_row, comes, mapped_is, moved_is}
 use Rattle.kernel_laws.proofs.Forms.{Form, quiet, forked, regrouped, leading}
 use Rattle.cluster_core.specs.Machine.{Groups, others, told_of_move, told_of_setpgid, told}
 use Rattle.cluster_laws.proofs.Members.{among_others}

@@ -1,11 +1,8 @@
 -- a run whose queue is empty is finished
-use Rattle.std.proofs.Common.{◌≡◌, ◌⊎◌, true, List, [], refl, sym, ap, ◌∙◌, subst, Option, None, Some}
-use Rattle.unix_names.specs.declared.Pid.{Pid}
-use Rattle.unix_names.specs.States.{is_living}
+use Rattle.std.proofs.Common.{◌≡◌, [], refl, ap, ◌∙◌, subst, Option, None, Some}
 use Rattle.unix_calls.specs.declared.World.{World}
 use Rattle.ordered_table.specs.Entries.{value_at}
 use Rattle.proc_image.specs.declared.image.Image.{Image}
-use Rattle.kernel_rules.specs.declared.rows.Row.{Row}
 use Rattle.kernel_rules.specs.Rows.{row_of}
 use Rattle.kernel_model.specs.Legal.{boot}
 use Rattle.cluster_core.specs.declared.played.Played.{Played}

@@ -1,8 +1,6 @@
 -- each entry leaves every row's process listed in its group
-use Rattle.std.proofs.Common.{◌≡◌, ◌==◌, ◌++◌, ℕ, ℤ, pos, negsuc, Bool, true, false, cond, not, List, [], ◌∷◌, refl, sym, ap, ◌∙◌, subst, inl, inr, Option, None, Some, ◌%◌}
-use Rattle.std.specs.Prelude.{map, filter, fold}
-use Rattle.std.specs.Option.{option_map}
-use Rattle.std.proofs.lemmas.Bool.{eqb-true}
+use Rattle.std.proofs.Common.{◌≡◌, ◌==◌, ℕ, ℤ, pos, negsuc, Bool, true, false, cond, not, List, [], ◌∷◌, refl, sym, ap, ◌∙◌, subst, inl, inr, Option, None, Some, ◌%◌}
+use Rattle.std.specs.Prelude.{map, fold}
 use Rattle.unix_names.specs.declared.Pid.{Pid}
 use Rattle.unix_names.specs.declared.Act.{Act}
 use Rattle.unix_names.specs.declared.Signal.{Signal}
@@ -19,7 +17,7 @@ use Rattle.unix_calls.specs.declared.Target.{Target}
 use Rattle.unix_calls.specs.Calls.{target_of}
 use Rattle.list_laws.specs.Keyed.{option_filter}
 use Rattle.list_laws.proofs.Filters.{some_same, mapped_some, map-map}
-use Rattle.list_laws.proofs.Finding.{comes-map, comes-append, filtered_some, same_number, same_flip}
+use Rattle.list_laws.proofs.Finding.{comes-map, comes-append, filtered_some}
 use Rattle.kernel_rules.specs.declared.rows.Row.{Row}
 use Rattle.kernel_rules.specs.Rows.{pid, is_pid, row_of, row_named, AreDistinct}
 use Rattle.kernel_rules.specs.Refusals.{target_pid, wanted_group}
@@ -28,7 +26,7 @@ use Rattle.kernel_model.specs.Ending.{after_end}
 use Rattle.kernel_model.specs.Events.{delivered_at, stopped_at, continued_at}
 use Rattle.kernel_model.specs.Changes.{is_among}
 use Rattle.kernel_model.specs.Step.{newborn, execed_at, is_ended_at, reported_at, regrouped_at, leading_at, acting_at, masked_at, after_fork, after_wait, after_kill, after_setpgid, after_setsid, after_action, row_after}
-use Rattle.kernel_laws.proofs.Rows.{number, pid_same, row_pid, row_here, one_row, comes}
+use Rattle.kernel_laws.proofs.Rows.{number, row_pid, row_here, one_row, comes}
 use Rattle.kernel_laws.proofs.Ends.{is_left, after_end_of, row_after_end}
 use Rattle.cluster_core.specs.Machine.{Groups, members_of, joined, row_moved, groups_after, groups_after_fork, groups_after_setpgid, groups_after_setsid}
 use Rattle.cluster_core.specs.Run.{first_groups}

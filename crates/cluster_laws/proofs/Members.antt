@@ -1,15 +1,15 @@
 -- members of groups and lists of pids
-use Rattle.std.proofs.Common.{◌≡◌, ◌==◌, ◌&&◌, ◌||◌, ◌++◌, ℕ, Bool, true, false, cond, not, List, [], ◌∷◌, refl, sym, ap, ◌∙◌, subst, Option, None, Some}
+use Rattle.std.proofs.Common.{◌≡◌, ◌==◌, ◌||◌, ◌++◌, Bool, true, false, cond, not, List, [], ◌∷◌, refl, sym, ap, ◌∙◌, subst, Option, None, Some}
 use Rattle.std.specs.Prelude.{filter, nat_lt, unwrap_or}
-use Rattle.std.specs.List.{list_any, flat_map}
+use Rattle.std.specs.List.{flat_map}
 use Rattle.std.proofs.lemmas.Bool.{eqb-true, or_left, or_right}
 use Rattle.std.proofs.lemmas.List.Folds.{list_any-append}
 use Rattle.std.proofs.lemmas.Map.Views.{any-filter_same}
 use Rattle.unix_names.specs.declared.Pid.{Pid}
 use Rattle.ordered_table.specs.declared.entries.Entry.{Entry as Valued}
-use Rattle.ordered_table.specs.Entries.{value_at, with_value, pids_of}
+use Rattle.ordered_table.specs.Entries.{value_at, pids_of}
 use Rattle.ordered_table.proofs.MapLaws.{put-same, put-other}
-use Rattle.list_laws.proofs.Finding.{same_number, same_flip}
+use Rattle.list_laws.proofs.Finding.{same_number}
 use Rattle.kernel_rules.specs.Rows.{is_same}
 use Rattle.kernel_model.specs.Changes.{is_among}
 use Rattle.kernel_laws.proofs.Rows.{pid_same}

@@ -1,5 +1,5 @@
 -- each commitment leaves those whose images are parked as they are to rest
-use Rattle.std.proofs.Common.{◌≡◌, ◌==◌, ◌≤◌, ◌⊎◌, inl, inr, ◌++◌, ℕ, Bool, true, false, cond, List, [], ◌∷◌, length, refl, sym, ap, ◌∙◌, subst, Option, None, Some}
+use Rattle.std.proofs.Common.{◌≡◌, ◌==◌, ◌≤◌, inl, inr, ◌++◌, Bool, true, false, cond, List, [], ◌∷◌, length, refl, sym, ap, ◌∙◌, subst, Option, None, Some}
 use Rattle.std.proofs.lemmas.Bool.{eqb-true, ne_eqb}
 use Rattle.unix_names.specs.declared.Pid.{Pid}
 use Rattle.unix_names.specs.States.{is_living}
@@ -27,14 +27,13 @@ use Rattle.kernel_rules.specs.Rows.{row_of, is_stopped}
 use Rattle.kernel_rules.specs.Replies.{allows}
 use Rattle.kernel_model.specs.declared.verdict.Verdict.TheVariants.{Legal}
 use Rattle.kernel_model.specs.Changes.{is_among}
-use Rattle.kernel_model.specs.Legal.{after_all}
-use Rattle.kernel_model.specs.Step.{process_of, row_verdict, row_after}
+use Rattle.kernel_model.specs.Step.{row_verdict, row_after}
 use Rattle.kernel_laws.proofs.Rows.{pid_same, row_pid, row_here}
 use Rattle.kernel_laws.proofs.Legal.{actor, after_is, call_allowed}
 use Rattle.kernel_choice.specs.Choice.{first_event}
 use Rattle.cluster_core.specs.declared.machine.Machine.{Machine}
 use Rattle.cluster_core.specs.declared.played.Played.{Played}
-use Rattle.cluster_core.specs.Machine.{told, stepped, stepped_by, groups_after, decided, in_phase, placed, chosen, happened_or, asked, phase_after, committed}
+use Rattle.cluster_core.specs.Machine.{told, stepped, stepped_by, groups_after, decided, in_phase, chosen, happened_or, asked, phase_after, committed}
 use Rattle.cluster_core.specs.Run.{with_entry, is_stopped_phase}
 use Rattle.audit_core.specs.Finished.{StaysStopped, SleepsOn, last_call, later_call}
 use Rattle.cluster_laws.specs.Stands.{IsParkedPhase, IsImageOf, progress_after, Stands}
@@ -42,9 +41,9 @@ use Rattle.cluster_laws.specs.Rests.{AreListed, Rests}
 use Rattle.cluster_laws.proofs.Chosen.{IsJobOf, IsChosen, fresh_next, chosen_none}
 use Rattle.cluster_laws.proofs.Progress.{IsNoForkOf, progress_own}
 use Rattle.cluster_laws.proofs.Places.{parked_one}
-use Rattle.cluster_laws.proofs.Played.{from_images, taken, taken_have, taken_of, taken_room, taken_here, taken_chosen}
+use Rattle.cluster_laws.proofs.Played.{from_images, taken_have, taken_of, taken_room, taken_here, taken_chosen}
 use Rattle.cluster_laws.proofs.Turns.{IsKeptByTurns}
-use Rattle.cluster_laws.proofs.Parking.{WasParked, IsParkedBy, SameTables, committed_tables, committed_parked, placed_parked}
+use Rattle.cluster_laws.proofs.Parking.{SameTables, committed_tables, committed_parked, placed_parked}
 use Rattle.cluster_laws.proofs.Resting.{none_rests, stop_rests, waiting, last-push, last_own}
 use Rattle.cluster_laws.proofs.Rested.{IsResting, acts, table_next, listed_now, no_fork, rests_on}
 
@@ -72,7 +71,7 @@ module _ (world : World) (p : Played) (stands : Stands world p) (image : Image) 
       let allowed = call_allowed rows r call reply legal in
       let far = progress_own world running entry at (ap (λ (q : Pid). running q.0) (is.process ∙ named) ∙ of.progress) (subst (λ (q : Pid). IsNoForkOf entry q.0) (sym is.process) (no_fork world p stands image r entry is here listed r.pid r here)) in
       let entry_is : entry ≡ Called r.pid (next_call world r.pid at) Again =
-          ap (λ q. Called q call reply) is.process ∙ ap (λ c. Called r.pid c reply) asks ∙ ap (λ x. Called r.pid (next_call world r.pid at) x) wait.again in
+      ap (λ q. Called q call reply) is.process ∙ ap (λ c. Called r.pid c reply) asks ∙ ap (λ x. Called r.pid (next_call world r.pid at) x) wait.again in
       let table = table_next world p stands image r entry is here listed ∙ same in
       subst (SleepsOn world next) (some_same r r' (sym here ∙ ap (λ t. row_of t r.pid) (sym same) ∙ later)) (record {
         free = allowed.0;

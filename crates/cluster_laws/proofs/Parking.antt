@@ -1,5 +1,5 @@
 -- which images are parked after a turn
-use Rattle.std.proofs.Common.{◌≡◌, ◌==◌, ◌⊎◌, inl, inr, ℕ, Bool, true, false, List, [], ◌∷◌, refl, sym, ap, ◌∙◌, subst, Option, None, Some}
+use Rattle.std.proofs.Common.{◌≡◌, ◌==◌, ◌⊎◌, inl, inr, Bool, true, false, List, [], ◌∷◌, refl, sym, ap, ◌∙◌, subst, Option, None, Some}
 use Rattle.std.specs.Prelude.{fold}
 use Rattle.std.proofs.lemmas.Bool.{eqb-true, eqb-false, or_from, false_from_ne_true}
 use Rattle.unix_names.specs.declared.Pid.{Pid}
@@ -15,7 +15,7 @@ use Rattle.kernel_rules.specs.declared.rows.Row.{Row}
 use Rattle.kernel_model.specs.Changes.{is_among}
 use Rattle.kernel_laws.proofs.Rows.{pid_same}
 use Rattle.cluster_core.specs.declared.machine.Machine.{Machine}
-use Rattle.cluster_core.specs.Machine.{Groups, told, roused, nudged, placed, with_image, born, stepped, groups_after, decided, phase_after, advanced, image_after, placed_image, committed}
+use Rattle.cluster_core.specs.Machine.{told, roused, nudged, placed, with_image, born, stepped, groups_after, decided, phase_after, image_after, placed_image, committed}
 use Rattle.cluster_laws.specs.Stands.{IsParkedPhase}
 use Rattle.cluster_laws.proofs.Placed.{advanced_pid}
 
@@ -127,9 +127,8 @@ module _ (world : World) (own : Image) (r : Row) (entry : Entry) (m : Machine) w
   committed_parked q image rising none e =
       let same = with_parked (born world own entry) put in
       let t = told_parked (told m.kernel now.kernel r entry now.groups) now q image (subst IsRising (sym same) (placed_rising (phase_after world own entry) (image_after world own entry) (decided r entry m) rising)) e in
-      let named = advanced_pid world own entry in
-      (
+      let named = advanced_pid world own entry in (
         subst (λ g. is_among (told m.kernel (stepped m.kernel entry) r entry g) q ≡ false) now_tables.groups (subst (λ k. is_among (told m.kernel k r entry now.groups) q ≡ false) now_tables.kernel t.1),
         subst (λ p. IsParkedBy m.parked (phase_after world own entry) p q image) named
-        (placed_parked (decided r entry m) (phase_after world own entry) (image_after world own entry) q image (ap (value_at m.parked) named ∙ none) (ap (λ l. value_at l q) (sym same) ∙ t.0)),
+            (placed_parked (decided r entry m) (phase_after world own entry) (image_after world own entry) q image (ap (value_at m.parked) named ∙ none) (ap (λ l. value_at l q) (sym same) ∙ t.0)),
       )

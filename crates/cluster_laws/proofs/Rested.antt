@@ -1,54 +1,37 @@
 -- each turn leaves those whose images are parked as they are to rest
-use Rattle.std.proofs.Common.{◌≡◌, ◌==◌, ◌&&◌, ◌<◌, ◌≤◌, ◌⊎◌, inl, inr, ◌++◌, ℕ, Bool, true, false, not, cond, List, [], ◌∷◌, length, refl, sym, ap, ◌∙◌, subst, arith, Option, None, Some}
-use Rattle.std.proofs.lemmas.Bool.{eqb-true, ne_eqb}
+use Rattle.std.proofs.Common.{◌≡◌, ◌==◌, ◌&&◌, ◌⊎◌, inl, inr, ◌++◌, true, false, not, List, [], ◌∷◌, sym, ap, ◌∙◌, subst, arith, Some}
+use Rattle.std.proofs.lemmas.Bool.{ne_eqb}
 use Rattle.unix_names.specs.declared.Pid.{Pid}
 use Rattle.unix_names.specs.declared.Signal.TheVariants.{Kill}
 use Rattle.unix_names.specs.Sets.{has}
-use Rattle.unix_names.specs.States.{is_living}
-use Rattle.unix_calls.specs.declared.Call.{Call}
-use Rattle.unix_calls.specs.declared.Call.TheVariants.{Exit, Waitpid}
-use Rattle.unix_calls.specs.declared.Reply.{Reply}
 use Rattle.unix_calls.specs.declared.Reply.TheVariants.{Again}
-use Rattle.unix_calls.specs.declared.Event.TheVariants.{Caught, Discarded, StoppedBy, EndedBy, Continued, Moved}
 use Rattle.unix_calls.specs.declared.Entry.{Entry}
-use Rattle.unix_calls.specs.declared.Entry.TheVariants.{Called, Happened}
-use Rattle.unix_calls.specs.declared.Job.{Job}
-use Rattle.unix_calls.specs.declared.Phase.TheVariants as phases
+use Rattle.unix_calls.specs.declared.Entry.TheVariants.{Called}
 use Rattle.unix_calls.specs.declared.World.{World}
-use Rattle.unix_calls.specs.Valid.{IsValid}
-use Rattle.ordered_table.specs.Entries.{value_at}
 use Rattle.signal_state.specs.Sig.{deliverable}
-use Rattle.list_laws.proofs.Filters.{some_same}
 use Rattle.proc_image.specs.declared.image.Image.{Image}
-use Rattle.proc_image.specs.Scripts.{Progress, next_call, stands_again, moved_on}
-use Rattle.proc_image.specs.Follows.{Running, first_running, after_entry}
-use Rattle.proc_image.specs.Images.{progress_of}
+use Rattle.proc_image.specs.Scripts.{next_call}
+use Rattle.proc_image.specs.Follows.{first_running}
 use Rattle.proc_image.proofs.FollowsLaws.{after_entries-push}
 use Rattle.kernel_rules.specs.declared.rows.Row.{Row}
 use Rattle.kernel_rules.specs.Rows.{row_of}
 use Rattle.kernel_rules.specs.Replies.{allows}
-use Rattle.kernel_rules.specs.Conditions.{can_call}
-use Rattle.kernel_model.specs.declared.verdict.Verdict.TheVariants.{Legal}
 use Rattle.kernel_model.specs.Changes.{is_among}
 use Rattle.kernel_model.specs.Legal.{boot, after_all}
-use Rattle.kernel_model.specs.Step.{process_of, verdict, row_verdict, after, row_after}
-use Rattle.kernel_laws.proofs.Rows.{pid_same, row_pid, row_here}
-use Rattle.kernel_laws.proofs.Legal.{actor, after_is, call_allowed}
-use Rattle.kernel_choice.specs.Choice.{first_event}
-use Rattle.cluster_core.specs.declared.machine.Machine.{Machine}
+use Rattle.kernel_model.specs.Step.{process_of, after, row_after}
+use Rattle.kernel_laws.proofs.Rows.{row_pid}
+use Rattle.kernel_laws.proofs.Legal.{after_is}
 use Rattle.cluster_core.specs.declared.played.Played.{Played}
-use Rattle.cluster_core.specs.Machine.{Groups, members_of, told, stepped, stepped_by, groups_after, decided, chosen, happened_or, asked, phase_after_call, phase_after, committed}
-use Rattle.audit_core.specs.Finished.{StaysStopped, SleepsOn, last_call, later_call}
-use Rattle.cluster_laws.specs.Stands.{IsParkedPhase, IsImageOf, IsPlaced, progress_after, Stands}
-use Rattle.cluster_laws.specs.Rests.{AreListed, Rests}
-use Rattle.cluster_laws.proofs.Chosen.{IsJobOf, IsChosen, chosen_number, chosen_none, fresh_next}
+use Rattle.cluster_core.specs.Machine.{Groups, members_of, told, groups_after}
+use Rattle.audit_core.specs.Finished.{StaysStopped, SleepsOn, last_call}
+use Rattle.cluster_laws.specs.Stands.{progress_after, Stands}
+use Rattle.cluster_laws.specs.Rests.{AreListed}
+use Rattle.cluster_laws.proofs.Chosen.{IsChosen, chosen_number}
 use Rattle.cluster_laws.proofs.Histories.{table-push}
-use Rattle.cluster_laws.proofs.Progress.{IsNoForkOf, progress_kept, progress_own}
-use Rattle.cluster_laws.proofs.Turns.{IsKeptByTurns}
+use Rattle.cluster_laws.proofs.Progress.{IsNoForkOf, progress_kept}
 use Rattle.cluster_laws.proofs.Listing.{listed_after}
 use Rattle.cluster_laws.proofs.Waits.{group_stays, pid_stays, signals_stay, again_still}
-use Rattle.cluster_laws.proofs.Parking.{WasParked, IsParkedBy, committed_tables, committed_parked, placed_parked}
-use Rattle.cluster_laws.proofs.Resting.{none_rests, stop_rests, waiting, last-push, last_own, last_other}
+use Rattle.cluster_laws.proofs.Resting.{waiting, last-push, last_other}
 
 -- the process of a parked image stays stopped, or sleeps on
 abbrev pub IsResting : World → List Entry → Row → Type 0

@@ -1,13 +1,11 @@
 -- a process that a turn parks stays stopped, or sleeps on
-use Rattle.std.proofs.Common.{◌≡◌, ◌==◌, ◌&&◌, ◌||◌, ◌⊎◌, inl, inr, ◌++◌, ℕ, ℤ, Bool, true, false, cond, not, List, [], ◌∷◌, refl, sym, ap, ◌∙◌, subst, Option, None, Some}
-use Rattle.std.specs.Prelude.{fold, is_some}
+use Rattle.std.proofs.Common.{◌≡◌, ◌==◌, ◌||◌, ◌++◌, ℕ, ℤ, Bool, true, false, cond, not, List, [], ◌∷◌, refl, ap, ◌∙◌, Option, None, Some}
 use Rattle.std.specs.Option.{option_map, option_map_or}
-use Rattle.std.proofs.lemmas.Bool.{and_cases, and_from, cases_Bool, ne_eqb}
+use Rattle.std.proofs.lemmas.Bool.{and_from}
 use Rattle.std.proofs.lemmas.List.Sums.{fold-append}
 use Rattle.unix_names.specs.declared.Pid.{Pid}
 use Rattle.unix_names.specs.declared.Signal.{Signal}
 use Rattle.unix_names.specs.declared.Signal.TheVariants.{Kill, Chld}
-use Rattle.unix_names.specs.declared.Life.TheVariants.{Stopped}
 use Rattle.unix_names.specs.Sets.{has, added, removed, minus}
 use Rattle.unix_names.specs.States.{is_living}
 use Rattle.unix_names.proofs.SetLaws.{has-added, has-minus}
@@ -16,7 +14,7 @@ use Rattle.unix_calls.specs.declared.Call.TheVariants.{Fork, Waitpid}
 use Rattle.unix_calls.specs.declared.Reply.{Reply}
 use Rattle.unix_calls.specs.declared.Reply.TheVariants.{Number, Again}
 use Rattle.unix_calls.specs.declared.Event.{Event}
-use Rattle.unix_calls.specs.declared.Event.TheVariants.{StoppedBy, EndedBy, Continued, Moved}
+use Rattle.unix_calls.specs.declared.Event.TheVariants.{StoppedBy, EndedBy, Continued}
 use Rattle.unix_calls.specs.declared.Entry.{Entry}
 use Rattle.unix_calls.specs.declared.Entry.TheVariants.{Called, Happened}
 use Rattle.unix_calls.specs.declared.Job.{Job}
@@ -27,7 +25,6 @@ use Rattle.unix_calls.specs.declared.World.{World}
 use Rattle.signal_state.specs.Signals.{Signals, IsKept}
 use Rattle.signal_state.specs.Sig.{deliverable, stopped_by, generated_all}
 use Rattle.signal_state.proofs.Kept.{within_removed, not_within}
-use Rattle.list_laws.proofs.Filters.{some_same}
 use Rattle.list_laws.proofs.Finding.{same_number, same_flip}
 use Rattle.proc_image.specs.Scripts.{Progress, call_or_exit, next_statement, next_call, after_reply_or_exit, moved_on, is_wait_again, stands_again}
 use Rattle.kernel_rules.specs.declared.rows.Row.{Row}
@@ -36,8 +33,8 @@ use Rattle.kernel_rules.specs.Conditions.{is_deliverable}
 use Rattle.kernel_model.specs.Sent.{sent_to_parent}
 use Rattle.kernel_model.specs.Events.{stopped_at, after_event}
 use Rattle.kernel_model.specs.Step.{process_of}
-use Rattle.kernel_laws.proofs.Others.{first, second, came_received_at}
-use Rattle.kernel_choice.specs.Choice.{first_event, event_of, least_deliverable, reply_of}
+use Rattle.kernel_laws.proofs.Others.{came_received_at}
+use Rattle.kernel_choice.specs.Choice.{first_event, event_of, least_deliverable}
 use Rattle.kernel_choice.proofs.EventLaws.{none_chosen}
 use Rattle.cluster_core.specs.Machine.{asked, happened_or, chosen}
 use Rattle.audit_core.specs.Finished.{StaysStopped, is_born, later_call, last_call}

@@ -1,7 +1,6 @@
 -- who is not told of an entry is sent nothing
-use Rattle.std.proofs.Common.{◌≡◌, ◌==◌, ◌&&◌, ◌||◌, ◌%◌, ◌++◌, ℕ, ℤ, Bool, true, false, cond, not, List, [], ◌∷◌, refl, sym, ap, ◌∙◌, subst, Option, None, Some}
-use Rattle.std.specs.Prelude.{map, filter}
-use Rattle.std.specs.List.{list_any, flat_map}
+use Rattle.std.proofs.Common.{◌≡◌, ◌==◌, ◌&&◌, ◌||◌, ◌%◌, ◌++◌, ℕ, Bool, true, false, cond, not, List, [], ◌∷◌, refl, sym, ap, ◌∙◌, subst, Option, None, Some}
+use Rattle.std.specs.List.{list_any}
 use Rattle.std.specs.Option.{option_map}
 use Rattle.std.proofs.lemmas.Bool.{eqb-true, or_parts, or_right, and_parts, false_from_ne_true}
 use Rattle.unix_names.specs.declared.Pid.{Pid}
@@ -23,7 +22,7 @@ use Rattle.unix_calls.specs.Calls.{target_of}
 use Rattle.ordered_table.specs.Entries.{pids_of}
 use Rattle.list_laws.proofs.Filters.{any-map}
 use Rattle.kernel_rules.specs.declared.rows.Row.{Row}
-use Rattle.kernel_rules.specs.Rows.{in_group, is_same, row_of}
+use Rattle.kernel_rules.specs.Rows.{in_group, row_of}
 use Rattle.kernel_rules.specs.Refusals.{is_named, is_permitted}
 use Rattle.kernel_rules.specs.Permission.{may}
 use Rattle.kernel_rules.specs.Orphans.{is_outside_parent, is_link_of, is_orphaned, is_stopped_in, is_newly_orphaned}

@@ -1,8 +1,7 @@
 -- who sleeps in a wait and is not told of an entry sleeps on, and who stays stopped stays so
-use Rattle.std.proofs.Common.{◌≡◌, ◌==◌, ◌&&◌, ◌||◌, ◌⊎◌, inl, inr, ℕ, ℤ, Bool, true, false, cond, not, List, [], ◌∷◌, refl, sym, ap, ◌∙◌, subst, Option, None, Some, is_some}
+use Rattle.std.proofs.Common.{◌≡◌, ◌==◌, ◌&&◌, ◌⊎◌, inl, inr, ℤ, Bool, true, false, cond, not, List, [], ◌∷◌, refl, sym, ap, ◌∙◌, subst, Option, None, Some, is_some}
 use Rattle.std.specs.List.{list_any}
-use Rattle.std.proofs.lemmas.Bool.{eqb-true, eq-eqb, ne_eqb, or_left, or_right, and_parts, and_from, false_from_ne_true}
-use Rattle.unix_names.specs.declared.Pid.{Pid}
+use Rattle.std.proofs.lemmas.Bool.{eqb-true, eq-eqb, ne_eqb, or_left, or_right, and_parts, false_from_ne_true}
 use Rattle.unix_names.specs.declared.Errno.TheVariants.{ECHILD}
 use Rattle.unix_names.specs.declared.Life.{Life}
 use Rattle.unix_names.specs.declared.Life.TheVariants.{Runs, Stopped, Ended}
@@ -19,10 +18,9 @@ use Rattle.unix_calls.specs.Calls.{selector_of}
 use Rattle.signal_state.specs.Sig.{generated_all}
 use Rattle.list_laws.proofs.Filters.{some_same, and_false}
 use Rattle.list_laws.proofs.Elements.{any_some, any_no, any_found, any_none_found}
-use Rattle.list_laws.proofs.Finding.{same_number}
 use Rattle.kernel_rules.specs.declared.rows.Row.{Row}
 use Rattle.kernel_rules.specs.Rows.{is_pid, is_parent, row_of}
-use Rattle.kernel_rules.specs.Refusals.{selects, is_match, wait_refusal}
+use Rattle.kernel_rules.specs.Refusals.{selects, is_match}
 use Rattle.kernel_rules.specs.Replies.{asked_change, report_of, is_ready_match, allows, is_first}
 use Rattle.kernel_model.specs.declared.verdict.Verdict.TheVariants.{Legal}
 use Rattle.kernel_model.specs.Changes.{is_among}
@@ -31,7 +29,7 @@ use Rattle.kernel_model.specs.Step.{process_of, verdict, sent_at, sent, row_verd
 use Rattle.kernel_laws.specs.Effects.{is_end, is_report_of, IsSignalled}
 use Rattle.kernel_laws.proofs.Rows.{number, pid_same, row_pid, row_here, one_row, distinct_from}
 use Rattle.kernel_laws.proofs.Others.{nothing_sent, others_signalled}
-use Rattle.kernel_laws.proofs.Legal.{Actor, actor, after_is, not_true}
+use Rattle.kernel_laws.proofs.Legal.{actor, after_is, not_true}
 use Rattle.kernel_laws.proofs.Forms.{step_form}
 use Rattle.kernel_laws.proofs.Coming.{living_stay}
 use Rattle.kernel_laws.proofs.Steps.{step_keeps}
