@@ -1,5 +1,5 @@
 -- The parts of a text by its lines.
-use Rattle.std.specs.Prelude.{◌≡◌, ℕ, ◌+◌, ◌≤◌, Bool, true, false, not, if◌then◌else◌, List, [], ◌∷◌, ◌++◌, length, take_while, codes, slice_range, Option, None, Some}
+use Rattle.std.specs.Prelude.{◌≡◌, ℕ, ◌≤◌, Bool, false, not, if◌then◌else◌, List, [], ◌∷◌, length, take_while, codes, slice_range, Option, None, Some}
 use Rattle.std.specs.Str.{bytes_eq}
 use Rattle.byte_ends.specs.Text.{lines, words}
 use Rattle.file_parts.specs.declared.parts.Span.{Span}

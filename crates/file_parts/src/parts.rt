@@ -1,7 +1,9 @@
 // Where the parts of a file stand.
-ghost use Rattle.std.specs.Prelude.{◌≡◌, ◌+◌, ◌<◌, ◌≤◌, ◌^◌, ◌∷◌, ◌↔◌, [], length, codes, slice_range, IsTrue, IsNone, IfSome};
-ghost use Rattle.byte_ends.specs.Text.{lines, words};
-ghost use Rattle.file_parts.specs.Parts.{IsPart, IsPartOf, is_only, before, behind, world_lines, schedule_lines, history_lines};
+ghost use Rattle.std.specs.Prelude.{◌≡◌, ◌+◌, ◌<◌, ◌≤◌, ◌^◌, length, take};
+ghost use Rattle.std.specs.List.{list_all};
+ghost use Rattle.std.specs.Str.{bytes_eq};
+ghost use Rattle.byte_ends.specs.Text.{lines, words, is_blank};
+ghost use Rattle.file_parts.specs.Parts.{IsPart, IsPartOf, is_only, before, behind, front_lines, world_lines, schedule_lines, history_lines};
 
 use byte_ends::next_line;
 
@@ -27,21 +29,21 @@ pub struct Parts {
 
 /// The parts of a file of fewer than 2^31 bytes.
 ///
-/// The history is what stands behind the first line whose only word is `history`. In what stands before it the schedule is
-/// what stands behind the first line whose only word is `schedule`, and the world is the rest. It takes no memory.
+/// The history is what stands behind the first line whose only word is `history`. In what stands before that line the schedule
+/// is what stands behind the first line whose only word is `schedule`, and the world is the rest. It takes no memory.
 pub fn split(bytes: &[u8]) -> Parts
     requires { length bytes.now < 2 ^ 31 }
     ensures world { IsPart bytes.now (world_lines (lines bytes.now)) 1 result.world }
     ensures schedule { IsPartOf bytes.now (schedule_lines (lines bytes.now)) (2 + length (world_lines (lines bytes.now))) result.schedule }
-    ensures history { IsPartOf bytes.now (history_lines (lines bytes.now)) (2 + length (before (is_only (codes "history")) (lines bytes.now))) result.history }
+    ensures history { IsPartOf bytes.now (history_lines (lines bytes.now)) (2 + length (front_lines (lines bytes.now))) result.history }
 {
-    let whole = Span {
+    let (front, history) = divided(bytes, HISTORY);
+    let (world, schedule) = divided(&bytes[..front], SCHEDULE);
+    let world = Span {
         from: 0,
-        to: bytes.len(),
+        to: world,
         first_line: 1,
     };
-    let (front, history) = divided(bytes, whole, HISTORY);
-    let (world, schedule) = divided(bytes, front, SCHEDULE);
     Parts {
         world,
         schedule,
@@ -49,46 +51,56 @@ pub fn split(bytes: &[u8]) -> Parts
     }
 }
 
-// The part before the first line whose only word is a given one, and the part behind that line.
-fn divided(bytes: &[u8], part: Span, word: &str) -> (Span, Option<Span>)
-    requires few { length bytes.now < 2 ^ 31 }
-    requires order { part.from ≤ part.to }
-    requires within { part.to ≤ length bytes.now }
-    requires first { part.first_line ≤ part.from + 1 }
-    ensures front { let all = lines (slice_range bytes.now part.from part.to) in
-        IsPart bytes.now (before (is_only word.now) all) part.first_line result.0 }
-    ensures rest { let all = lines (slice_range bytes.now part.from part.to) in
-        IsPartOf bytes.now (behind (is_only word.now) all) (part.first_line + length (before (is_only word.now) all) + 1) result.1 }
-    ensures first { result.0.first_line ≤ result.0.from + 1 }
+// How many bytes stand before the first line whose only word is a given one, and the part behind that line.
+fn divided(text: &[u8], word: &str) -> (usize, Option<Span>)
+    requires { length text.now < 2 ^ 31 }
+    ensures within { result.0 ≤ length text.now }
+    ensures front { lines (take result.0 text.now) ≡ before (is_only word.now) (lines text.now) }
+    ensures rest { IsPartOf text.now (behind (is_only word.now) (lines text.now)) (2 + length (before (is_only word.now) (lines text.now))) result.1 }
 {
-    let within = &bytes[..part.to];
-    let mut at = part.from;
-    let mut line = part.first_line;
-    while let Some((from, to, next)) = next_line(within, at) {
-        if is_only(&within[from..to], word) {
-            let front = Span { to: from, ..part };
+    let mut at = 0;
+    let mut count = 0;
+    while let Some((from, to, next)) = next_line(text, at) {
+        if is_only(&text[from..to], word) {
             let rest = Span {
                 from: next,
-                to: part.to,
-                first_line: line + 1,
+                to: text.len(),
+                first_line: count + 2,
             };
-            return (front, Some(rest));
+            return (at, Some(rest));
         }
         at = next;
-        line += 1;
+        count += 1;
     }
-    (part, None)
+    (text.len(), None)
 }
 
 // Whether a line has one word, and it is a given one.
 fn is_only(line: &[u8], word: &str) -> bool
     ensures { result ≡ is_only word.now line.now }
 {
-    let mut words = line
-        .split(|b| *b == b' ' || *b == b'\t')
-        .filter(|word| !word.is_empty());
-    match words.next() {
-        Some(first) => first == word.as_bytes() && words.next().is_none(),
-        None => false,
-    }
+    word_count(line) == 1 && has_all(line, word)
+}
+
+fn is_blank(b: u8) -> bool
+    ensures { result ≡ is_blank b }
+{
+    b == b' ' || b == b'\t'
+}
+
+fn word_count(line: &[u8]) -> usize
+    ensures { result ≡ length (words line.now) }
+{
+    line.split(|b| is_blank(*b))
+        .filter(|word| !word.is_empty())
+        .count()
+}
+
+// Whether each word of a line is a given one.
+fn has_all(line: &[u8], text: &str) -> bool
+    ensures { result ≡ list_all (λ word. bytes_eq word text.now) (words line.now) }
+{
+    line.split(|b| is_blank(*b))
+        .filter(|word| !word.is_empty())
+        .all(|word| word == text.as_bytes())
 }
