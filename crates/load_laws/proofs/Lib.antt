@@ -7,3 +7,5 @@ pub mod Spelled
 pub mod Orders
 pub mod Works
 pub mod Rounds
+pub mod Sound
+pub mod Files
