@@ -23,3 +23,12 @@ pub mod Shapes
 pub mod Said
 pub mod Tabled
 pub mod Grammatical
+pub mod Built
+pub mod Exact
+pub mod Least
+pub mod Masks
+pub mod Chosen
+pub mod Spelled
+pub mod Rows
+pub mod Solid
+pub mod Back

@@ -1,7 +1,8 @@
 -- names gathered line by line, and numbered one by one
-use Rattle.std.proofs.Common.{◌≡◌, ℕ, ◌+◌, ◌<◌, ◌≤◌, Bool, true, false, List, [], ◌∷◌, ◌++◌, length, map, filter, take, drop, get_or, Bor, refl, sym, ap, ◌∙◌, arith}
-use Rattle.std.proofs.lemmas.List.{at_drop_more, at_drop_all, map-append}
+use Rattle.std.proofs.Common.{◌≡◌, ℕ, ◌+◌, ◌<◌, ◌≤◌, true, false, List, [], ◌∷◌, ◌++◌, length, map, filter, take, drop, get_or, Bor, refl, sym, ap, ◌∙◌, arith, append_assoc}
+use Rattle.std.proofs.lemmas.List.{at_drop_more, at_drop_all, map-append, append-nil, take_more, drop_all}
 use Rattle.std.proofs.lemmas.List.Elements.{filter-append}
+use Rattle.byte_ends.specs.Text.{lines, words}
 use Rattle.script_reader.specs.Words.{Word, Row, word_at}
 use Rattle.script_reader.specs.Names.{Table, noted}
 use Rattle.script_reader.specs.Files.{begins_with, words_behind, numbered, listed}
@@ -14,7 +15,7 @@ words_behind-push first at rows row =
 
 pub words_behind-yes : (first : Word) (at : ℕ) (row : Row) → begins_with first row ≡ true → words_behind first at (row ∷ []) ≡ word_at row at ∷ []
 unfolding words_behind
-words_behind-yes first at row yes = rw yes refl
+words_behind-yes first at row holds = rw holds refl
 
 pub words_behind-not : (first : Word) (at : ℕ) (row : Row) → begins_with first row ≡ false → words_behind first at (row ∷ []) ≡ []
 unfolding words_behind
@@ -43,3 +44,24 @@ number-more ws i n table d total lt so_far = sym (at_drop_more (number_rest tabl
 pub number-all : (ws : List (Bor (List ℕ))) (i n : ℕ) (table total : Table) → length ws ≤ i → numbered table n (map (λ w. w.now) (drop i ws)) ≡ total → table ≡ total
 unfolding numbered number_rest
 number-all ws i n table total le so_far = sym (at_drop_all (number_rest table n) ws i le) ∙ so_far
+
+-- the words of the lines so far, and those of one line more
+pub words-more : (first : Word) (at : ℕ) (lines : List (Bor (List ℕ))) (i : ℕ) (d : Bor (List ℕ)) (found : List Word) → i < length lines
+    → found ≡ words_behind first at (map words (map (λ l. l.now) (take i lines)))
+    → found ++ words_behind first at (words (get_or lines i d).now ∷ []) ≡ words_behind first at (map words (map (λ l. l.now) (take (i + 1) lines)))
+words-more first at lines i d found lt so_far =
+    let line = get_or lines i d in
+    let split : map words (map (λ l. l.now) (take (i + 1) lines)) ≡ map words (map (λ l. l.now) (take i lines)) ++ words line.now ∷ [] =
+    ap (map words) (ap (map (λ l. l.now)) (take_more lines i d lt) ∙ map-append (λ l. l.now) (take i lines) (line ∷ [])) ∙ map-append words (map (λ l. l.now) (take i lines)) (line.now ∷ []) in
+    ap (λ (f : List Word). f ++ words_behind first at (words line.now ∷ [])) so_far ∙ sym (words_behind-push first at (map words (map (λ l. l.now) (take i lines))) (words line.now)) ∙ ap (words_behind first at) (sym split)
+
+-- the lines so far, and those of the rest of a text
+pub lines-more : (found : List (Bor (List ℕ))) (text : List ℕ) (at next : ℕ) (line : Bor (List ℕ)) → lines (drop at text) ≡ line.now ∷ lines (drop next text)
+    → map (λ l. l.now) found ++ lines (drop at text) ≡ lines text → map (λ l. l.now) (found ++ line ∷ []) ++ lines (drop next text) ≡ lines text
+lines-more found text at next line first so_far =
+    ap (λ (f : List (List ℕ)). f ++ lines (drop next text)) (map-append (λ l. l.now) found (line ∷ [])) ∙ append_assoc (map (λ l. l.now) found) (line.now ∷ []) (lines (drop next text)) ∙ ap (λ (f : List (List ℕ)). map (λ l. l.now) found ++ f) (sym first) ∙ so_far
+
+pub lines-all : (found : List (Bor (List ℕ))) (text : List ℕ) (at : ℕ) → at ≡ length text → map (λ l. l.now) found ++ lines (drop at text) ≡ lines text → map (λ l. l.now) found ≡ lines text
+lines-all found text at end so_far =
+    let none : drop at text ≡ [] = drop_all at text (omega arith) in
+    sym (append-nil (map (λ l. l.now) found)) ∙ ap (λ (t : List ℕ). map (λ l. l.now) found ++ lines t) (sym none) ∙ so_far

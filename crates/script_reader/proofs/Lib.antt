@@ -6,3 +6,4 @@ pub mod Numbers
 mod SignalLemmas
 mod Steps
 mod Texts
+mod Wholes

@@ -1,5 +1,5 @@
 -- what a whole world part means, or its least fault
-use Rattle.std.specs.Prelude.{ℕ, ◌+◌, ◌-◌, ◌==◌, Bool, true, false, ◌&&◌, nat_le, if◌then◌else◌, List, [], ◌∷◌, ◌++◌, length, map, filter, codes, Option, Some, None, Result, Ok, Err}
+use Rattle.std.specs.Prelude.{ℕ, ◌+◌, ◌-◌, ◌==◌, Bool, false, ◌&&◌, nat_le, if◌then◌else◌, List, [], ◌∷◌, ◌++◌, length, map, filter, codes, Option, Some, None, Result, Ok, Err}
 use Rattle.std.specs.Str.{is_utf8}
 use Rattle.byte_ends.specs.Text.{words}
 use Rattle.unix_calls.specs.declared.Script.{Script}
@@ -66,15 +66,20 @@ unfoldable pub place_behind : Place → List Told → Place
 place_behind place [] = place
 place_behind place (told ∷ rest) = place_behind (place_after place told.0 told.1) rest
 
--- a statement that a line says, before others; a line with a fault says none
-abbrev pub with_said : Result Item Kind → List Statement → List Statement
-with_said (Ok (item.Says s)) statements = s ∷ statements
-with_said _ statements = statements
+-- the statement that a line says; a line with a fault says none
+abbrev pub said : Result Item Kind → Option Statement
+said (Ok (item.Says s)) = Some s
+said _ = None
+
+-- a statement, where there is one, before others
+abbrev pub with_said : Option Statement → List Statement → List Statement
+with_said (Some s) statements = s ∷ statements
+with_said None statements = statements
 
 -- the statements of lines up to the next line that begins a script
 unfoldable pub body : List Told → List Statement
 body [] = []
-body (told ∷ rest) = if begins_with (codes "script") told.0 then [] else with_said told.1 (body rest)
+body (told ∷ rest) = if begins_with (codes "script") told.0 then [] else with_said (said told.1) (body rest)
 
 -- the scripts of lines: one for each line that begins with `script`
 unfoldable pub scripts_of : List Told → List Script

@@ -4,6 +4,6 @@ pub mod Form
 pub mod Kinds
 pub mod Lines
 pub mod Names
+pub mod Starts
 pub mod Statements
 pub mod Words
-pub mod Written

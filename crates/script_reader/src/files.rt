@@ -7,17 +7,38 @@ ghost use Rattle.script_reader.specs.declared.faults.Fault.{Fault};
 ghost use Rattle.script_reader.specs.Files as spec;
 
 use crate::bodies::Bodies;
-use crate::faults::{Fault, Kind, ReadRefusal};
+use crate::faults::{Kind, ReadRefusal};
 use crate::gather::{gather, lines_of};
-use crate::lines::{Item, StartLine, is_utf8, place_after, read_line};
+use crate::lines::{is_utf8, place_after, read_line};
 use crate::names::Names;
 use crate::places::{FIRST_PLACE, Place};
+use crate::starts::{Starts, bad};
 use byte_ends::words_of;
+use file_parts::Span;
 use std::alloc::Global;
-use unix_calls::{Script, Start, Work, World, script_work, work_of};
-use unix_names::{NodeId, PIDS_PER_NODE, Pid, Seq};
+use unix_calls::{Script, Start, Work, World, script_work};
+use unix_names::{NoMemory, Seq};
 
-pub fn read_part(alloc: Global, lines: &[&[u8]], first_line: u32) -> Result<World, ReadRefusal>
+/// The world that a world part means, or the least fault of it. Memory is linear in the part's length.
+///
+/// # Errors
+/// `Bad` with the least line that has a fault, counted from the number of the part's first line, and its first fault;
+/// `NoMemory` where memory runs out.
+pub fn read_file(alloc: Global, bytes: &[u8], part: Span) -> Result<World, ReadRefusal>
+    requires short { length bytes.now < 2 ^ 31 }
+    requires order { part.from ≤ part.to }
+    requires within { part.to ≤ length bytes.now }
+    requires first { 1 ≤ part.first_line }
+    requires numbers { part.first_line ≤ 2 ^ 31 }
+    ensures world { IfOk result (λ w. spec.read_part part.first_line (lines_in (slice_range bytes.now part.from part.to)) ≡ Ok w) }
+    ensures bad { (fault : Fault) → result ≡ Err (ReadRefusal.Bad fault)
+        → spec.read_part part.first_line (lines_in (slice_range bytes.now part.from part.to)) ≡ Err fault }
+{
+    let lines = lines_of(alloc, &bytes[part.from..part.to])?;
+    read_part(alloc, &lines, part.first_line)
+}
+
+fn read_part(alloc: Global, lines: &[&[u8]], first_line: u32) -> Result<World, ReadRefusal>
     requires short { length lines.now < 2 ^ 31 }
     requires first { 1 ≤ first_line }
     requires numbers { first_line ≤ 2 ^ 31 }
@@ -32,15 +53,16 @@ pub fn read_part(alloc: Global, lines: &[&[u8]], first_line: u32) -> Result<Worl
     }
     let works = works_of(alloc, scripts.as_slice())?;
     let starts = judged(alloc, &names, &works, lines, first_line)?;
-    if let Some(kind) = end_kind(&place) {
-        return Err(bad(last_line(first_line, lines), kind));
+    let vars = names.variables.len();
+    match end_kind(&place) {
+        Some(kind) => Err(bad(last_line(first_line, lines), kind)),
+        None => Ok(World {
+            nodes: place.nodes,
+            vars,
+            scripts,
+            starts,
+        }),
     }
-    Ok(World {
-        nodes: place.nodes,
-        vars: names.variables.len(),
-        scripts,
-        starts,
-    })
 }
 
 // The scripts of some lines, and where the line behind them would stand.
@@ -48,7 +70,7 @@ fn scripts_of<'a>(
     alloc: Global,
     names: &Names<'a>,
     lines: &[&'a [u8]],
-) -> Result<(Seq<Script>, Place), ReadRefusal>
+) -> Result<(Seq<Script>, Place), NoMemory>
     requires { length lines.now < 2 ^ 31 }
     ensures scripts { IfOk result (λ x. x.0 ≡ spec.scripts_of (spec.tells names.now spec.first_place (map (λ l. l.now) lines.now))) }
     ensures place { IfOk result (λ x. x.1 ≡ spec.place_behind spec.first_place (spec.tells names.now spec.first_place (map (λ l. l.now) lines.now))) }
@@ -65,7 +87,7 @@ fn scripts_of<'a>(
 }
 
 // The work of each script.
-fn works_of(alloc: Global, scripts: &[Script]) -> Result<Vec<Work>, ReadRefusal>
+fn works_of(alloc: Global, scripts: &[Script]) -> Result<Vec<Work>, NoMemory>
     ensures { IfOk result (λ v. v.items ≡ works scripts.now) }
 {
     let mut works = Vec::new(alloc);
@@ -90,54 +112,17 @@ fn judged<'a>(
     ensures bad { (fault : Fault) → result ≡ Err (ReadRefusal.Bad fault)
         → spec.judged works.now [] first_line (spec.tells names.now spec.first_place (map (λ l. l.now) lines.now)) ≡ Err fault }
 {
-    let mut starts = Seq::new(alloc);
-    let mut total = Work::NONE;
+    let mut starts = Starts::new(alloc);
     let mut place = FIRST_PLACE;
     let mut number = first_line;
     for line in lines {
         let words = words_of(alloc, *line)?;
         let read = read_line(names, &place, *line, &words);
-        match &read {
-            Err(kind) => return Err(bad(number, *kind)),
-            Ok(Item::Starts(start)) => {
-                total = total.and(work_of(works, start.script));
-                if !total.is_little() {
-                    return Err(bad(number, Kind::TooMuchWork));
-                }
-                let start = start_of(starts.as_slice(), *start);
-                starts.push(start)?;
-            }
-            Ok(_) => {}
-        }
+        starts.take_line(works, number, &read)?;
         place = place_after(place, &words, read);
         number += 1;
     }
-    Ok(starts)
-}
-
-fn bad(line: u32, kind: Kind) -> ReadRefusal
-    ensures { result ≡ ReadRefusal.Bad (spec.fault_at line kind) }
-{
-    ReadRefusal::Bad(Fault { line, kind })
-}
-
-// A start behind earlier ones, with its pid.
-#[tactic(auto, unfolding(crate::specs::Files::start_of))]
-fn start_of(earlier: &[Start], line: StartLine) -> Start
-    requires few { length earlier.now < 2 ^ 31 }
-    requires node { line.node < 64 }
-    ensures { result ≡ spec.start_of earlier.now line }
-{
-    let node = NodeId(line.node);
-    let at_node = earlier.iter().filter(|start| start.node == node).count();
-    Start {
-        node,
-        script: line.script,
-        var: line.var,
-        pid: Pid(PIDS_PER_NODE * line.node + 2 + at_node as u32),
-        uid: line.uid,
-        joined: line.joined,
-    }
+    Ok(starts.list)
 }
 
 // What is wrong with a part in which no line says anything.

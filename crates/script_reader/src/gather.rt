@@ -3,14 +3,14 @@ ghost use Rattle.std.specs.Prelude.{◌≡◌, [], ◌∷◌, ◌++◌, ◌≤�
 ghost use Rattle.byte_ends.specs.Text.{lines as lines_in, words as words_in};
 ghost use Rattle.script_reader.specs.Files.{begins_with, words_behind, numbered, listed, gather as gathered};
 
-use crate::faults::ReadRefusal;
 use crate::names::{Names, Numbers};
 use crate::words::{is_word, word_at};
 use byte_ends::{next_line, words_of};
 use std::alloc::Global;
+use unix_names::NoMemory;
 
 /// The lines of a text.
-pub fn lines_of<'a>(alloc: Global, text: &'a [u8]) -> Result<Vec<&'a [u8]>, ReadRefusal>
+pub fn lines_of<'a>(alloc: Global, text: &'a [u8]) -> Result<Vec<&'a [u8]>, NoMemory>
     ensures lines { IfOk result (λ v. map (λ l. l.now) v.items ≡ lines_in text.now) }
     ensures few { IfOk result (λ v. length v.items ≤ length text.now) }
 {
@@ -37,7 +37,7 @@ fn collect<'a>(
     words: &[&'a [u8]],
     first: &str,
     at: usize,
-) -> Result<(), ReadRefusal>
+) -> Result<(), NoMemory>
     ensures { OnOk result (map (λ w. w.now) found.new.items
         ≡ map (λ w. w.now) found.old.items ++ words_behind first.now at (map (λ w. w.now) words.now ∷ [])) }
 {
@@ -48,7 +48,7 @@ fn collect<'a>(
 }
 
 // Words with their places, the first place of each.
-fn numbered<'a>(alloc: Global, words: &[&'a [u8]]) -> Result<Numbers<'a>, ReadRefusal>
+fn numbered<'a>(alloc: Global, words: &[&'a [u8]]) -> Result<Numbers<'a>, NoMemory>
     ensures { IfOk result (λ n. n ≡ numbered [] 0 (map (λ w. w.now) words.now)) }
 {
     let mut numbers = Numbers::new(alloc);
@@ -59,7 +59,7 @@ fn numbered<'a>(alloc: Global, words: &[&'a [u8]]) -> Result<Numbers<'a>, ReadRe
 }
 
 // Gives each word that lacks a number the next one.
-fn list<'a>(numbers: &mut Numbers<'a>, words: &[&'a [u8]]) -> Result<(), ReadRefusal>
+fn list<'a>(numbers: &mut Numbers<'a>, words: &[&'a [u8]]) -> Result<(), NoMemory>
     ensures { OnOk result (numbers.new ≡ listed numbers.old (map (λ w. w.now) words.now)) }
 {
     for word in words {
@@ -71,7 +71,7 @@ fn list<'a>(numbers: &mut Numbers<'a>, words: &[&'a [u8]]) -> Result<(), ReadRef
 
 /// The names that the lines of a file give.
 #[tactic(auto, unfolding(crate::specs::Files::gather))]
-pub fn gather<'a>(alloc: Global, lines: &[&'a [u8]]) -> Result<Names<'a>, ReadRefusal>
+pub fn gather<'a>(alloc: Global, lines: &[&'a [u8]]) -> Result<Names<'a>, NoMemory>
     ensures { IfOk result (λ names. names ≡ gathered (map words_in (map (λ l. l.now) lines.now))) }
 {
     let mut scripts = Vec::new(alloc);

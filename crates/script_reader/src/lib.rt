@@ -9,9 +9,12 @@ mod gather;
 mod lines;
 mod names;
 mod places;
+mod starts;
 mod statements;
+#[cfg(test)]
+mod tests;
 mod words;
 
 pub use faults::{Fault, Kind, ReadRefusal};
-pub use files::read_part;
+pub use files::read_file;
 pub use form::{FormRefusal, read_form};

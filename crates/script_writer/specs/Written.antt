@@ -16,7 +16,13 @@ use Rattle.unix_calls.specs.declared.Start.{Start}
 use Rattle.unix_calls.specs.declared.Statement.{Statement}
 use Rattle.unix_calls.specs.declared.Statement.TheVariants as statement
 use Rattle.unix_calls.specs.declared.World.{World}
-use Rattle.script_reader.specs.Words.{Word, Row}
+
+abbrev pub Word : Type 0
+Word = List ℕ
+
+-- the words of a line
+abbrev pub Row : Type 0
+Row = List Word
 
 abbrev pub script_name : ℕ → Word
 script_name n = codes "s" ++ decimal n
