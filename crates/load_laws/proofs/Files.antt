@@ -1,17 +1,17 @@
 -- a made file means its world
-use Rattle.std.proofs.Common.{◌≡◌, ◌++◌, ℕ, ◌+◌, ◌-◌, ◌*◌, ◌<◌, ◌≤◌, List, [], ◌∷◌, length, length-append, map, codes, refl, sym, ap, ◌∙◌, subst, arith, None, Some}
+use Rattle.std.proofs.Common.{◌≡◌, ◌++◌, ℕ, ◌+◌, ◌*◌, ◌≤◌, List, [], ◌∷◌, length, length-append, map, codes, refl, sym, ap, ◌∙◌, subst, arith, None}
 use Rattle.std.specs.List.{flat_map}
 use Rattle.std.specs.Fmt.{decimal}
-use Rattle.byte_ends.specs.Text.{words, lines}
+use Rattle.byte_ends.specs.Text.{lines}
 use Rattle.unix_calls.specs.declared.World.{World}
 use Rattle.unix_calls.specs.declared.Start.{Start}
 use Rattle.unix_calls.specs.Work.{work}
 use Rattle.file_parts.specs.Parts.{world_lines, schedule_lines, history_lines}
 use Rattle.script_laws.specs.Grammar.{Part, opens, IsFile}
 use Rattle.script_laws.specs.Writable.{assigned_by, AreInOrder, variables_of}
-use Rattle.load_maker.specs.Made.{Row, line_of, after_workers, worker_name, leader_name, child_name, start_name, all_workers, all_leaders, all_starts, leader_count, follower_count, worker_count, made_rows, made}
-use Rattle.load_laws.specs.Worlds.{firsts, start, world_of, made_world}
-use Rattle.load_laws.specs.Laws.{MadeIsFile, MadeIsValid, MadeWork, MadeIsOnePart}
+use Rattle.load_maker.specs.Made.{Row, line_of, after_workers, child_name, start_name, all_workers, all_leaders, all_starts, leader_count, follower_count, worker_count}
+use Rattle.load_laws.specs.Worlds.{firsts, start, world_of}
+use Rattle.load_laws.specs.Laws.{MadeIsFile, MadeIsValid, MadeWorks, MadeWork, MadeIsOnePart}
 use Rattle.load_laws.proofs.Lists.{length-firsts, map-firsts}
 use Rattle.load_laws.proofs.Rows.{AreGood, good-append, written, text-lines, text-rows, text-utf8, one_part}
 use Rattle.load_laws.proofs.Names.{script_names, variable_names}
@@ -19,7 +19,7 @@ use Rattle.load_laws.proofs.Sizes.{AreSizes, sizes, few-workers, naming}
 use Rattle.load_laws.proofs.Goods.{good-workers, good-leaders, good-starts, good-cluster}
 use Rattle.load_laws.proofs.Spelled.{number-for, all-lines}
 use Rattle.load_laws.proofs.Orders.{scripts-order}
-use Rattle.load_laws.proofs.Works.{whole-work}
+use Rattle.load_laws.proofs.Works.{all-works, whole-work}
 use Rattle.load_laws.proofs.Sound.{world-valid}
 
 module _ (seed nodes leaders followers workers : ℕ) (s : AreSizes nodes leaders followers workers) where
@@ -31,12 +31,13 @@ module _ (seed nodes leaders followers workers : ℕ) (s : AreSizes nodes leader
 
   all-good : AreGood Rows
   all-good =
-      let some = s.some_node in
-      (good-cluster nodes leaders followers workers s,
-       good-append (all_workers nodes workers seed ++ all_leaders workers nodes followers leaders (after_workers workers seed)) (all_starts nodes leaders)
-       (good-append (all_workers nodes workers seed) (all_leaders workers nodes followers leaders (after_workers workers seed))
-       (good-workers nodes leaders followers workers s workers seed (omega arith)) (good-leaders nodes leaders followers workers s leaders (after_workers workers seed) (omega arith)))
-       (good-starts nodes leaders followers workers s leaders (omega arith)))
+      let some = s.some_node in (
+        good-cluster nodes leaders followers workers s,
+        good-append (all_workers nodes workers seed ++ all_leaders workers nodes followers leaders (after_workers workers seed)) (all_starts nodes leaders)
+            (good-append (all_workers nodes workers seed) (all_leaders workers nodes followers leaders (after_workers workers seed))
+            (good-workers nodes leaders followers workers s workers seed (omega arith)) (good-leaders nodes leaders followers workers s leaders (after_workers workers seed) (omega arith)))
+            (good-starts nodes leaders followers workers s leaders (omega arith)),
+      )
 
   part : Part (naming workers leaders) W Rows
   part = let few = s.few_nodes in opens (decimal nodes) (number-for nodes (omega arith)) (all-lines nodes leaders followers workers W.starts s seed (after_workers workers seed))
@@ -79,15 +80,23 @@ pub made_file : MadeIsFile
 made_file seed nodes size a b c d = text-file seed nodes (leader_count size) (follower_count size) (worker_count size) (sizes nodes size a b c d)
 
 pub made_valid : MadeIsValid
-made_valid seed nodes size a b c d = world-valid seed nodes (leader_count size) (follower_count size) (worker_count size) (sizes nodes size a b c d)
+made_valid seed nodes size a b c d = (world-valid seed nodes (leader_count size) (follower_count size) (worker_count size) (sizes nodes size a b c d), refl)
 
 pub made_part : MadeIsOnePart
 made_part seed nodes size a b c d = text-part seed nodes (leader_count size) (follower_count size) (worker_count size) (sizes nodes size a b c d)
 
+pub made_works : MadeWorks
+made_works seed nodes size a b c d = all-works nodes (leader_count size) (follower_count size) (worker_count size) (sizes nodes size a b c d) seed (after_workers (worker_count size) seed)
+
 all_of : (size : ℕ) → 1 ≤ size → leader_count size + follower_count size ≡ size
 all_of size some = omega arith
 
+few_statements : (size : ℕ) → 1 ≤ size → size ≤ 200 → 2 * leader_count size + 10 * follower_count size ≤ 1816
+few_statements size some few = omega arith
+
 pub made_work : MadeWork
-made_work seed nodes size a b c d =
-    whole-work nodes (leader_count size) (follower_count size) (worker_count size) (sizes nodes size a b c d) seed (after_workers (worker_count size) seed)
-    ∙ ap (λ n. work n (2 * leader_count size + 10 * follower_count size)) (all_of size c)
+made_work seed nodes size a b c d = (
+  whole-work nodes (leader_count size) (follower_count size) (worker_count size) (sizes nodes size a b c d) seed (after_workers (worker_count size) seed)
+      ∙ ap (λ n. work n (2 * leader_count size + 10 * follower_count size)) (all_of size c),
+  few_statements size c d,
+)

@@ -1,5 +1,5 @@
 -- the rows of a made file can be written as lines
-use Rattle.std.proofs.Common.{◌≡◌, ◌++◌, ◌&&◌, ℕ, zero, suc, ◌+◌, ◌<◌, ◌≤◌, ◌^◌, ◌%◌, Bool, true, false, List, [], ◌∷◌, codes, refl, ap, ◌∙◌, arith, mod-lt}
+use Rattle.std.proofs.Common.{◌≡◌, ◌++◌, ◌&&◌, ℕ, zero, suc, ◌<◌, ◌≤◌, ◌^◌, ◌%◌, Bool, true, false, [], ◌∷◌, codes, refl, ap, ◌∙◌, arith, mod-lt}
 use Rattle.std.specs.Fmt.{decimal}
 use Rattle.unix_calls.specs.declared.Statement.{Statement}
 use Rattle.file_parts.specs.Parts.{stands_alone}
@@ -37,16 +37,31 @@ module _ (nodes leaders followers workers : ℕ) (s : AreSizes nodes leaders fol
       (good-known _ refl refl refl) (good-known _ refl refl refl)
 
   good-worker : (i x : ℕ) → i < 2 ^ 32 → AreGood (worker_rows nodes i x)
-  good-worker i x h =
-      (good-known _ (and-true _ true (fine-worker i h) refl) refl refl,
-      (good-known _ refl refl refl,
-      (good-known _ refl refl refl,
-      (good-drawn x,
-      (good-drawn (after_statement x),
-      (good-known _ refl refl refl,
-      (good-known _ refl refl refl,
-      (good-known _ (and-true _ true (fine-decimal i h) refl) refl refl,
-      (good-known _ refl refl refl, tt)))))))))
+  good-worker i x h = (
+    good-known _ (and-true _ true (fine-worker i h) refl) refl refl,
+    (
+      good-known _ refl refl refl,
+      (
+        good-known _ refl refl refl,
+        (
+          good-drawn x,
+          (
+            good-drawn (after_statement x),
+            (
+              good-known _ refl refl refl,
+              (
+                good-known _ refl refl refl,
+                (
+                  good-known _ (and-true _ true (fine-decimal i h) refl) refl refl,
+                  (good-known _ refl refl refl, tt),
+                ),
+              ),
+            ),
+          ),
+        ),
+      ),
+    ),
+  )
 
   pub good-workers : (n x : ℕ) → n ≤ workers → AreGood (all_workers nodes n x)
   good-workers zero x le = tt
@@ -68,11 +83,14 @@ module _ (nodes leaders followers workers : ℕ) (s : AreSizes nodes leaders fol
   good-waits (suc n) = good-append (wait_rows n) ((codes "wait" ∷ codes "any" ∷ []) ∷ []) (good-waits n) (good-known _ refl refl refl, tt)
 
   good-leader : (children j x : ℕ) → children ≤ workers → j < 2 ^ 32 → AreGood (leader_rows workers nodes children j x)
-  good-leader children j x le h =
-      (good-known _ (and-true _ true (fine-leader j h) refl) refl refl,
-      (good-known _ refl refl refl,
+  good-leader children j x le h = (
+    good-known _ (and-true _ true (fine-leader j h) refl) refl refl,
+    (
+      good-known _ refl refl refl,
       good-append (fork_rows workers nodes children x) (wait_rows children ++ (codes "end" ∷ []) ∷ []) (good-forks children x le)
-      (good-append (wait_rows children) ((codes "end" ∷ []) ∷ []) (good-waits children) (good-known _ refl refl refl, tt))))
+          (good-append (wait_rows children) ((codes "end" ∷ []) ∷ []) (good-waits children) (good-known _ refl refl refl, tt)),
+    ),
+  )
 
   pub good-leaders : (n x : ℕ) → n ≤ leaders → AreGood (all_leaders workers nodes followers n x)
   good-leaders zero x le = tt

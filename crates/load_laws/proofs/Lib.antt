@@ -9,3 +9,4 @@ pub mod Works
 pub mod Rounds
 pub mod Sound
 pub mod Files
+pub mod Meant

@@ -1,6 +1,6 @@
 -- what is made of the numbers below another
-use Rattle.std.proofs.Common.{◌≡◌, ◌⊎◌, inl, inr, ◌++◌, ℕ, zero, suc, ◌+◌, ◌<◌, ◌≤◌, List, [], ◌∷◌, length, length-append, map, refl, sym, ap, ◌∙◌, subst, arith, Option, Some, None, slice_get, All, get_or, take, eq-or-lt_of_le}
-use Rattle.std.proofs.lemmas.List.{get_or_append_left, get_or-append-add, map-append}
+use Rattle.std.proofs.Common.{◌≡◌, ◌⊎◌, inl, inr, ◌++◌, ℕ, zero, suc, ◌+◌, ◌<◌, ◌≤◌, List, [], ◌∷◌, length, length-append, map, refl, sym, ap, ◌∙◌, subst, arith, Some, slice_get, All, take, eq-or-lt_of_le}
+use Rattle.std.proofs.lemmas.List.{map-append}
 use Rattle.std.proofs.lemmas.List.Elements.{All-nil, All-push}
 use Rattle.unix_calls.specs.Valid.{EachAt}
 use Rattle.load_laws.specs.Worlds.{firsts}
@@ -63,6 +63,7 @@ firsts-get {X} f (suc n) k x e = go (get-either (firsts f n) (f n ∷ []) k x e)
     last : (j : ℕ) → k ≡ length (firsts f n) + j → slice_get (f n ∷ []) j ≡ Some x → (k < suc n) × (x ≡ f k)
     last zero at is = let l = length-firsts f n in let same : k ≡ n = omega arith in (omega arith, sym (some_same (f n) x is) ∙ ap f (sym same))
     last (suc j) at is = cc
+
     go : (slice_get (firsts f n) k ≡ Some x) ⊎ ((j : ℕ) × (k ≡ length (firsts f n) + j) × (slice_get (f n ∷ []) j ≡ Some x)) → (slice_get (firsts f n) k ≡ Some x → (k < n) × (x ≡ f k)) → (k < suc n) × (x ≡ f k)
     go (inl h) before = let r = before h in (omega (arith, r.0), r.1)
     go (inr h) before = last h.0 h.1 h.2

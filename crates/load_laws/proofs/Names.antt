@@ -1,5 +1,5 @@
 -- the names of a made file
-use Rattle.std.proofs.Common.{◌≡◌, ◌⊎◌, inl, inr, ◌++◌, ◌&&◌, ℕ, ◌+◌, ◌<◌, ◌≤◌, ◌^◌, nat_le, Bool, true, false, List, [], ◌∷◌, length, codes, refl, sym, ap, ◌∙◌, subst, arith, Option, Some, None, slice_get, All, drop, slice_index, not, ◌==◌}
+use Rattle.std.proofs.Common.{◌≡◌, ◌⊎◌, inl, inr, ◌++◌, ℕ, ◌+◌, ◌<◌, ◌≤◌, ◌^◌, Bool, true, false, List, [], ◌∷◌, length, codes, refl, sym, ap, ◌∙◌, subst, arith, Some, slice_get, All, drop, slice_index, not, ◌==◌}
 use Rattle.std.specs.List.{list_all}
 use Rattle.std.specs.Fmt.{decimal}
 use Rattle.std.specs.Str.Parse.{AllDigits}
@@ -137,9 +137,10 @@ module _ (f g : ℕ → Word) (m n : ℕ) (few_first : m < 2 ^ 32) (few : n < 2 
       x.1 ∙ ap (λ j. m + j) one ∙ sym y.1
 
   pub are_names : AreNames Names
-  are_names =
-      (All-append IsName (firsts f m) (firsts g n) (All-firsts IsName f m (λ i lt. first_named i (omega arith))) (All-firsts IsName g n (λ i lt. named i (omega arith))),
-       λ word a b ca cb. same word a b (stands word a ca) (stands word b cb))
+  are_names = (
+    All-append IsName (firsts f m) (firsts g n) (All-firsts IsName f m (λ i lt. first_named i (omega arith))) (All-firsts IsName g n (λ i lt. named i (omega arith))),
+    λ word a b ca cb. same word a b (stands word a ca) (stands word b cb),
+  )
 
 pub script_names : (workers leaders : ℕ) → workers < 2 ^ 32 → leaders < 2 ^ 32 → AreNames (firsts worker_name workers ++ firsts leader_name leaders)
 script_names workers leaders hw hl =

@@ -1,10 +1,9 @@
 -- how many of the numbers below another are at a node
-use Rattle.std.proofs.Common.{◌≡◌, ◌⊎◌, inl, inr, ◌++◌, ℕ, zero, suc, ◌+◌, ◌*◌, ◌/◌, ◌%◌, ◌<◌, ◌≤◌, nat_lt, Bool, true, false, cond, ◌==◌, List, [], ◌∷◌, refl, sym, ap, ◌∙◌, subst, arith, mod-lt, div-add-mod', add-mul, one-mul, eq-or-lt_of_le, ⊎_elim}
+use Rattle.std.proofs.Common.{◌≡◌, ◌⊎◌, inl, inr, ℕ, zero, suc, ◌+◌, ◌*◌, ◌/◌, ◌%◌, ◌<◌, ◌≤◌, nat_lt, false, cond, ◌==◌, refl, sym, ap, ◌∙◌, arith, mod-lt, div-add-mod', add-mul, one-mul, eq-or-lt_of_le, ⊎_elim}
 use native.Mathlib.Nat.{div-eq_of_lt-le}
 use Rattle.std.proofs.lemmas.List.Sums.{sum_by_push}
 use Rattle.std.proofs.lemmas.Bool.{lt-ltb, ne_eqb, eq-eqb}
 use Rattle.std.proofs.lemmas.Bool.Decides.{nat_tests}
-use Rattle.unix_names.specs.declared.NodeId.{NodeId}
 use Rattle.unix_calls.specs.declared.Start.{Start}
 use Rattle.unix_calls.specs.Valid.{starts_at}
 use Rattle.load_laws.specs.Worlds.{firsts, start}

@@ -1,5 +1,5 @@
 -- rows that are written as lines are read back
-use Rattle.std.proofs.Common.{◌≡◌, ◌++◌, ◌&&◌, ℕ, zero, suc, ◌<◌, ◌≤◌, ◌^◌, nat_lt, nat_le, Bool, true, false, cond, not, List, [], ◌∷◌, length, map, codes, take_while, refl, sym, ap, ◌∙◌, subst, arith, append_assoc, Option, Some, None, All, IsAscii, slice_index}
+use Rattle.std.proofs.Common.{◌≡◌, ◌++◌, ◌&&◌, ℕ, zero, suc, ◌<◌, ◌^◌, nat_le, Bool, true, false, cond, not, List, [], ◌∷◌, length, map, codes, refl, sym, ap, ◌∙◌, arith, append_assoc, Some, None, All, IsAscii}
 use Rattle.std.specs.List.{list_all, flat_map}
 use Rattle.std.specs.Fmt.{decimal}
 use Rattle.std.specs.Str.{is_utf8}
@@ -11,11 +11,11 @@ use Rattle.std.proofs.lemmas.List.Elements.{All-nil, All-cons}
 use Rattle.std.proofs.lemmas.List.Sums.{take_while-cons}
 use Rattle.std.proofs.lemmas.Str.{is_utf8-from_IsUtf8, IsUtf8-from_ascii, IsAscii-append}
 use Rattle.std.proofs.lemmas.Str.Parse.{digit_from_value}
-use Rattle.byte_ends.specs.Text.{words, lines, strip_return}
+use Rattle.byte_ends.specs.Text.{words, lines}
 use Rattle.text_laws.specs.Plain.{is_visible, is_plain, are_plain}
 use Rattle.text_laws.proofs.Lines.{IsLine, lines-newline}
 use Rattle.text_laws.proofs.Words.{words-spaced, line-spaced}
-use Rattle.file_parts.specs.Parts.{stands_alone, is_only, before, behind, front_lines, world_lines, schedule_lines, history_lines}
+use Rattle.file_parts.specs.Parts.{stands_alone, is_only, before, behind, world_lines, schedule_lines, history_lines}
 use Rattle.load_maker.specs.Made.{Row, rest_of, line_of}
 
 -- ---- words
@@ -197,7 +197,8 @@ pub one_part : (rows : List Row) → AreGood rows → (world_lines (map written 
 one_part rows good =
     let schedule = nowhere (codes "schedule") (λ r g. g.schedule) rows good in
     let history = nowhere (codes "history") (λ r g. g.history) rows good in
-    let front = whole_before (codes "history") rows history in
-    (ap (before (is_only (codes "schedule"))) front ∙ whole_before (codes "schedule") rows schedule,
-     ap (behind (is_only (codes "schedule"))) front ∙ none_behind (codes "schedule") rows schedule,
-     none_behind (codes "history") rows history)
+    let front = whole_before (codes "history") rows history in (
+      ap (before (is_only (codes "schedule"))) front ∙ whole_before (codes "schedule") rows schedule,
+      ap (behind (is_only (codes "schedule"))) front ∙ none_behind (codes "schedule") rows schedule,
+      none_behind (codes "history") rows history,
+    )

@@ -1,5 +1,5 @@
 -- a made world can be run
-use Rattle.std.proofs.Common.{◌≡◌, ◌≢◌, ◌++◌, ℕ, zero, suc, ◌+◌, ◌*◌, ◌/◌, ◌%◌, ◌<◌, ◌≤◌, List, [], ◌∷◌, length, length-append, take, refl, sym, ap, ◌∙◌, subst, arith, mod-lt, Option, Some, None, All}
+use Rattle.std.proofs.Common.{◌≡◌, ◌≢◌, ◌++◌, ℕ, ◌+◌, ◌*◌, ◌%◌, ◌<◌, ◌≤◌, List, length, length-append, take, sym, ap, subst, arith, mod-lt}
 use Rattle.std.proofs.lemmas.List.Elements.{All-from_recursion, All-append, All-cons}
 use Rattle.unix_names.specs.declared.Signal.TheVariants.{Usr1}
 use Rattle.unix_names.specs.declared.Act.TheVariants.{Catch}
@@ -9,10 +9,9 @@ use Rattle.unix_calls.specs.declared.Start.{Start}
 use Rattle.unix_calls.specs.declared.Statement.{Statement}
 use Rattle.unix_calls.specs.declared.Statement.TheVariants as statement
 use Rattle.unix_calls.specs.declared.World.{World}
-use Rattle.unix_calls.specs.declared.Work.{Work}
-use Rattle.unix_calls.specs.Valid.{EachAt, IsStatement, IsScript, IsStart, IsLittleWork, HasLimits, IsValid}
+use Rattle.unix_calls.specs.Valid.{EachAt, IsStatement, IsScript, IsStart, IsLittleWork, IsValid}
 use Rattle.load_maker.specs.Made.{Row, drawn, stepped, after_statement, after_workers, after_leaders, after_children, child_count}
-use Rattle.load_laws.specs.Worlds.{firsts, drawn_statement, worker, fork, wait, leader, start, scripts_of, world_of}
+use Rattle.load_laws.specs.Worlds.{firsts, drawn_statement, worker, fork, wait, leader, start, world_of}
 use Rattle.load_laws.proofs.Lists.{length-firsts, All-firsts, each-firsts, each-append, take-firsts}
 use Rattle.load_laws.proofs.Sizes.{AreSizes, drawn-less, few-children, few-workers, each-drawn}
 use Rattle.load_laws.proofs.Rounds.{starts-before}
@@ -44,11 +43,13 @@ module _ (seed nodes leaders followers workers : ℕ) (s : AreSizes nodes leader
       let long = length-append forks waits in
       let long_forks = length-firsts (fork workers nodes x) children in
       let long_waits = length-firsts (λ (_ : ℕ). wait) children in
-      let few = few-workers nodes leaders followers workers s in
-      (omega arith, All-cons (IsStatement W (workers + j)) (statement.Action (number_of Usr1) Catch) (forks ++ waits) tt
-      (All-append (IsStatement W (workers + j)) forks waits
-      (All-firsts (IsStatement W (workers + j)) (fork workers nodes x) children (λ i lt. fork-valid j x i (omega arith)))
-      (All-firsts (IsStatement W (workers + j)) (λ _. wait) children (λ i lt. tt))))
+      let few = few-workers nodes leaders followers workers s in (
+        omega arith,
+        All-cons (IsStatement W (workers + j)) (statement.Action (number_of Usr1) Catch) (forks ++ waits) tt
+            (All-append (IsStatement W (workers + j)) forks waits
+            (All-firsts (IsStatement W (workers + j)) (fork workers nodes x) children (λ i lt. fork-valid j x i (omega arith)))
+            (All-firsts (IsStatement W (workers + j)) (λ _. wait) children (λ i lt. tt))),
+      )
 
   abbrev worker_at : ℕ → Script
   worker_at i = worker nodes (after_workers i seed) i

@@ -1,5 +1,5 @@
 -- the rows of a made file are lines of the grammar
-use Rattle.std.proofs.Common.{◌≡◌, inl, inr, ◌++◌, ℕ, zero, suc, ◌+◌, ◌<◌, ◌≤◌, ◌^◌, ◌%◌, List, [], ◌∷◌, codes, refl, sym, ap, ◌∙◌, subst, arith, mod-lt, append-nil, Option, Some, None, true, false}
+use Rattle.std.proofs.Common.{inl, ◌++◌, ℕ, zero, suc, ◌+◌, ◌<◌, ◌≤◌, ◌^◌, ◌%◌, List, [], ◌∷◌, codes, refl, sym, ap, ◌∙◌, subst, arith, mod-lt, append-nil, Option, Some, None}
 use Rattle.std.specs.Fmt.{decimal}
 use Rattle.std.specs.List.{AllZip}
 use Rattle.unix_names.specs.declared.Signal.TheVariants.{Usr1}
@@ -107,9 +107,15 @@ module _ (nodes leaders followers workers : ℕ) (all : List Start) (s : AreSize
       let node = drawn nodes (stepped (stepped state)) in
       let which = drawn workers (stepped state) in
       let in_nodes = drawn-less nodes (stepped (stepped state)) s.some_node in
-      let few = s.few_nodes in
-      (child_name i, worker_name which, codes "at" ∷ decimal node ∷ [], refl, child-called i lt, worker-called which (drawn-less workers (stepped state) (omega arith)),
-       (decimal node, refl, number-for node (omega arith)))
+      let few = s.few_nodes in (
+        child_name i,
+        worker_name which,
+        codes "at" ∷ decimal node ∷ [],
+        refl,
+        child-called i lt,
+        worker-called which (drawn-less workers (stepped state) (omega arith)),
+        (decimal node, refl, number-for node (omega arith)),
+      )
 
   says-forks : (n x : ℕ) → n ≤ workers → AreSaid Names all (fork_rows workers nodes n x) (firsts (fork workers nodes x) n)
   says-forks zero x le = tt

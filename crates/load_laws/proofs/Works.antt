@@ -1,8 +1,7 @@
 -- how much a made world makes
-use Rattle.std.proofs.Common.{◌≡◌, ◌++◌, ℕ, zero, suc, ◌+◌, ◌-◌, ◌*◌, ◌<◌, ◌≤◌, min, List, [], ◌∷◌, length, refl, sym, ap, ◌∙◌, subst, arith, fold, Option, Some, None, slice_get, unwrap_or, append-nil, append_assoc}
+use Rattle.std.proofs.Common.{◌≡◌, ◌++◌, ℕ, zero, suc, ◌+◌, ◌*◌, ◌<◌, ◌≤◌, min, List, [], ◌∷◌, refl, sym, ap, ◌∙◌, arith, fold, Option, unwrap_or, append-nil, append_assoc}
 use Rattle.std.proofs.lemmas.List.Sums.{fold-append}
 use Rattle.unix_calls.specs.declared.Script.{Script}
-use Rattle.unix_calls.specs.declared.Start.{Start}
 use Rattle.unix_calls.specs.declared.Statement.{Statement}
 use Rattle.unix_calls.specs.declared.Statement.TheVariants as statement
 use Rattle.unix_calls.specs.declared.Work.{Work}
@@ -98,7 +97,7 @@ module _ (nodes leaders followers workers : ℕ) (s : AreSizes nodes leaders fol
       ∙ ap (λ w. Works n ++ w ∷ []) (leader-work (Works n) workers nodes (child_count followers n) (after_leaders followers n x) (known-worker n) (few-children nodes leaders followers workers n s) (few-workers nodes leaders followers workers s))
       ∙ append_assoc (firsts (λ _. work 1 8) workers) (firsts led_work n) (led_work n ∷ [])
 
-  all-works : works (firsts (λ i. worker nodes (after_workers i seed) i) workers ++ Leaders leaders) ≡ Works leaders
+  pub all-works : works (firsts (λ i. worker nodes (after_workers i seed) i) workers ++ Leaders leaders) ≡ Works leaders
   all-works =
       fold-append with_script [] (firsts (λ i. worker nodes (after_workers i seed) i) workers) (Leaders leaders)
       ∙ ap (λ (ws : List Work). fold with_script ws (Leaders leaders)) (worker-works workers)

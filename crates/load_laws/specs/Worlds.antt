@@ -1,5 +1,5 @@
 -- the world of a made file
-use Rattle.std.specs.Prelude.{ℕ, zero, suc, ◌+◌, ◌*◌, ◌/◌, ◌%◌, Bool, true, false, ◌==◌, if◌then◌else◌, Some, None, List, [], ◌∷◌, ◌++◌}
+use Rattle.std.specs.Prelude.{ℕ, zero, suc, ◌+◌, ◌*◌, ◌/◌, ◌%◌, true, false, ◌==◌, if◌then◌else◌, Some, None, List, [], ◌∷◌, ◌++◌}
 use Rattle.unix_names.specs.declared.Signal.TheVariants.{Usr1}
 use Rattle.unix_names.specs.declared.Act.TheVariants.{Catch}
 use Rattle.unix_names.specs.Signals.{number_of}
@@ -35,7 +35,7 @@ drawn_statement nodes x = statement_for (drawn 6 (stepped x)) nodes (stepped x)
 -- the i-th worker, drawn from a state
 abbrev pub worker : ℕ → ℕ → ℕ → Script
 worker nodes x i = record {
-  statements = statement.Mask (added 0 Usr1) ∷ statement.Getpid ∷ drawn_statement nodes x ∷ drawn_statement nodes (after_statement x) ∷ statement.Pending ∷ statement.Mask 0 ∷ statement.Exit i ∷ []
+  statements = statement.Mask (added 0 Usr1) ∷ statement.Getpid ∷ drawn_statement nodes x ∷ drawn_statement nodes (after_statement x) ∷ statement.Pending ∷ statement.Mask 0 ∷ statement.Exit i ∷ [];
 }
 
 -- ---- leaders
@@ -51,7 +51,7 @@ wait = statement.Wait true true false Nobody false false
 -- a leader with so many children, drawn from a state
 abbrev pub leader : ℕ → ℕ → ℕ → ℕ → Script
 leader workers nodes children x = record {
-  statements = statement.Action (number_of Usr1) Catch ∷ firsts (fork workers nodes x) children ++ firsts (λ _. wait) children
+  statements = statement.Action (number_of Usr1) Catch ∷ firsts (fork workers nodes x) children ++ firsts (λ _. wait) children;
 }
 
 -- ---- the whole
