@@ -45,6 +45,7 @@ fork workers nodes x i =
     let state = after_children i x in
     statement.Fork i (drawn workers (stepped state)) (Some (record { 0 = drawn nodes (stepped (stepped state)) }))
 
+-- it sleeps until any child has ended
 abbrev pub wait : Statement
 wait = statement.Wait true true false Nobody false false
 
@@ -73,6 +74,7 @@ start nodes workers j = record {
   joined = None;
 }
 
+-- the world of a seed, so many nodes, leaders and followers, and so many scripts of workers
 abbrev pub world_of : ℕ → ℕ → ℕ → ℕ → ℕ → World
 world_of seed nodes leaders followers workers = record {
   nodes = nodes;
