@@ -1,0 +1,12 @@
+pub mod Lists
+pub mod Rows
+pub mod Names
+pub mod Sizes
+pub mod Goods
+pub mod Spelled
+pub mod Orders
+pub mod Works
+pub mod Rounds
+pub mod Sound
+pub mod Files
+pub mod Meant
