@@ -17,14 +17,15 @@ drawn n x = (x / 65536) % n
 abbrev pub Row : Type 0
 Row = List (List ℕ)
 
--- each word behind a space
-abbrev pub spaced : Row → List ℕ
-spaced words = flat_map (λ word. 32 ∷ word) words
+-- the rest of a line: each word behind a space, and a newline
+abbrev pub rest_of : Row → List ℕ
+rest_of [] = 10 ∷ []
+rest_of (word ∷ words) = 32 ∷ word ++ rest_of words
 
 -- a line: its words one space apart, and a newline
 abbrev pub line_of : Row → List ℕ
 line_of [] = 10 ∷ []
-line_of (word ∷ words) = word ++ spaced words ++ 10 ∷ []
+line_of (word ∷ words) = word ++ rest_of words
 
 -- a name with its number
 abbrev pub numbered : List ℕ → ℕ → List ℕ
@@ -62,19 +63,15 @@ abbrev pub after_statement : ℕ → ℕ
 after_statement x = if drawn 6 (stepped x) == 3 then stepped (stepped x) else stepped x
 
 -- ---- workers
+abbrev pub worker_head : ℕ → List Row
+worker_head i = (codes "script" ∷ worker_name i ∷ []) ∷ (codes "mask" ∷ codes "USR1" ∷ []) ∷ (codes "getpid" ∷ []) ∷ []
+
+abbrev pub worker_tail : ℕ → List Row
+worker_tail i = (codes "pending" ∷ []) ∷ (codes "mask" ∷ []) ∷ (codes "exit" ∷ decimal i ∷ []) ∷ (codes "end" ∷ []) ∷ []
+
 -- a worker: a mask, some calls of which two are drawn, and an end with its number
 abbrev pub worker_rows : ℕ → ℕ → ℕ → List Row
-worker_rows nodes i x =
-    (codes "script" ∷ worker_name i ∷ [])
-    ∷ (codes "mask" ∷ codes "USR1" ∷ [])
-    ∷ (codes "getpid" ∷ [])
-    ∷ statement_row nodes x
-    ∷ statement_row nodes (after_statement x)
-    ∷ (codes "pending" ∷ [])
-    ∷ (codes "mask" ∷ [])
-    ∷ (codes "exit" ∷ decimal i ∷ [])
-    ∷ (codes "end" ∷ [])
-    ∷ []
+worker_rows nodes i x = worker_head i ++ (statement_row nodes x ∷ statement_row nodes (after_statement x) ∷ worker_tail i)
 
 -- the state behind so many workers
 abbrev pub after_workers : ℕ → ℕ → ℕ
@@ -109,13 +106,14 @@ wait_rows (suc i) = wait_rows i ++ (codes "wait" ∷ codes "any" ∷ []) ∷ []
 
 -- how many children the j-th leader has: at most 8 of those that are left
 abbrev pub child_count : ℕ → ℕ → ℕ
-child_count followers j = min 8 (followers - 8 * j)
+child_count followers j = min (followers - 8 * j) 8
 
+abbrev pub leader_head : ℕ → List Row
+leader_head j = (codes "script" ∷ leader_name j ∷ []) ∷ (codes "action" ∷ codes "USR1" ∷ codes "catch" ∷ []) ∷ []
+
+-- a leader: it forks its children and waits as often
 abbrev pub leader_rows : ℕ → ℕ → ℕ → ℕ → ℕ → List Row
-leader_rows workers nodes children j x =
-    ((codes "script" ∷ leader_name j ∷ []) ∷ (codes "action" ∷ codes "USR1" ∷ codes "catch" ∷ []) ∷ fork_rows workers nodes children x)
-    ++ wait_rows children
-    ++ (codes "end" ∷ []) ∷ []
+leader_rows workers nodes children j x = leader_head j ++ (fork_rows workers nodes children x ++ (wait_rows children ++ (codes "end" ∷ []) ∷ []))
 
 -- the state behind so many leaders
 abbrev pub after_leaders : ℕ → ℕ → ℕ → ℕ
@@ -146,7 +144,7 @@ follower_count size = size - leader_count size
 
 -- how many scripts of followers there are: at most 8
 abbrev pub worker_count : ℕ → ℕ
-worker_count size = min 8 (follower_count size)
+worker_count size = min (follower_count size) 8
 
 -- the lines of the file that a seed gives, for so many nodes and processes
 abbrev pub made_rows : ℕ → ℕ → ℕ → List Row

@@ -1,0 +1,7 @@
+use Rattle.std.proofs.Common.{◌≡◌, ◌++◌, OnOk, subst}
+use Rattle.std.specs.String.{string_bytes}
+use Rattle.load_maker.proofs.Lines.{leader_head_text}
+use Rattle.load_maker.proofs.made.put_leader_head.Goals as goal
+
+pub returns : goal.returns
+returns c = subst (λ t. OnOk c.put_numbered.result (string_bytes c.put_numbered.new.text ≡ string_bytes c.args.text.now ++ t)) (leader_head_text c.args.number) c.put_numbered.ensures
