@@ -1,1 +1,6 @@
+pub mod GroupLaws
+pub mod ToldLaws
+pub mod MachineLaws
+pub mod FitLaws
+pub mod TurnLaws
 pub mod RunLaws

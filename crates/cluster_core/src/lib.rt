@@ -1,6 +1,17 @@
-//! The run of a world's processes.
+//! The run of a world's processes on one node, turn by turn.
 #![tactic(auto)]
 
-mod one_process;
+mod choice;
+mod groups;
+mod images;
+mod machine;
+mod outcome;
+mod played;
+mod replay;
+mod told;
 
-pub use one_process::run_one;
+pub use outcome::Run;
+pub use replay::run;
+
+#[cfg(test)]
+mod tests;

@@ -1,5 +1,5 @@
 -- the first table of a world, and the tables of its legal histories
-use Rattle.std.proofs.Common.{◌≡◌, ◌≢◌, ◌==◌, inl, inr, ◌++◌, ℕ, zero, suc, Bool, true, false, cond, List, [], ◌∷◌, length, refl, sym, ap, ◌∙◌, subst, arith, Option, None, Some, All}
+use Rattle.std.proofs.Common.{◌≡◌, ◌≢◌, ◌==◌, inl, inr, ◌++◌, ℕ, zero, suc, Bool, true, false, cond, List, [], ◌∷◌, length, refl, sym, ap, ◌∙◌, subst, arith, Option, None, Some}
 use Rattle.std.specs.Prelude.{slice_get}
 use Rattle.std.specs.Option.{option_or}
 use Rattle.std.proofs.lemmas.Bool.{eqb-true, ne_eqb}
@@ -11,8 +11,8 @@ use Rattle.unix_calls.specs.declared.World.{World}
 use Rattle.unix_calls.specs.Valid.{IsValid}
 use Rattle.signal_state.specs.Signals.{IsKept}
 use Rattle.signal_state.specs.Sig.{fresh}
-use Rattle.kernel_model.specs.declared.rows.Row.{Row}
-use Rattle.kernel_model.specs.Rows.{is_parent, is_stopped, row_of, child_count}
+use Rattle.kernel_rules.specs.declared.rows.Row.{Row}
+use Rattle.kernel_rules.specs.Rows.{is_parent, is_stopped, row_of, child_count}
 use Rattle.kernel_model.specs.Step.{after}
 use Rattle.kernel_model.specs.Legal.{joined_row, row_with, first_row, booted, boot, after_entries, IsLegalFrom}
 use Rattle.kernel_model.specs.Sound.{IsSoundRow, IsSound}
@@ -21,7 +21,7 @@ use Rattle.list_laws.proofs.Finding.{at-append, comes-append, distinct-append, a
 use Rattle.list_laws.proofs.Elements.{filter-same}
 use Rattle.list_laws.proofs.Filters.{filter-none, some_same}
 use Rattle.kernel_laws.specs.Tables.{BootIsSound, LegalTablesAreSound}
-use Rattle.kernel_laws.proofs.Starts.{start_number, IsOwnPid, AreOwnPids, HaveOwnPids, valid_pids}
+use Rattle.kernel_laws.proofs.Starts.{start_number, IsOwnPid, AreOwnPids, valid_pids}
 use Rattle.kernel_laws.proofs.Rows.{number, distinct_to, pid_same, row_here}
 use Rattle.kernel_laws.proofs.SignalFacts.{none_in_empty}
 use Rattle.kernel_laws.proofs.Steps.{step_keeps}

@@ -13,8 +13,8 @@ use Rattle.unix_names.specs.States.{is_living}
 use Rattle.signal_state.specs.Signals.{Signals, IsKept}
 use Rattle.signal_state.specs.Sig.{after_exec, with_action, with_mask, delivered, stopped_by, resumed}
 use Rattle.signal_state.proofs.Folds.{kept-generated_all, stopped-generated_all}
-use Rattle.kernel_model.specs.declared.rows.Row.{Row}
-use Rattle.kernel_model.specs.Rows.{is_pid}
+use Rattle.kernel_rules.specs.declared.rows.Row.{Row}
+use Rattle.kernel_rules.specs.Rows.{is_pid}
 use Rattle.kernel_model.specs.Sent.{receives, received}
 use Rattle.kernel_model.specs.Events.{delivered_at, stopped_at, continued_at}
 use Rattle.kernel_model.specs.Step.{execed_at, is_ended_at, reported_at, acting_at, masked_at}

@@ -22,11 +22,11 @@ use Rattle.unix_calls.specs.declared.Entry.{Entry}
 use Rattle.unix_calls.specs.declared.Entry.TheVariants.{Called, Happened}
 use Rattle.unix_calls.specs.declared.Target.{Target}
 use Rattle.unix_calls.specs.Calls.{target_of}
-use Rattle.kernel_model.specs.declared.rows.Row.{Row}
+use Rattle.kernel_rules.specs.declared.rows.Row.{Row}
 use Rattle.kernel_model.specs.declared.verdict.Verdict.TheVariants.{Legal}
-use Rattle.kernel_model.specs.Rows.{pid, is_pid, is_parent, in_group, row_of, row_named}
-use Rattle.kernel_model.specs.Refusals.{target_pid, wanted_group, fork_refusal, regroup_refusal, setsid_refusal}
-use Rattle.kernel_model.specs.Replies.{is_fresh, allows}
+use Rattle.kernel_rules.specs.Rows.{pid, is_pid, is_parent, in_group, row_of, row_named}
+use Rattle.kernel_rules.specs.Refusals.{target_pid, wanted_group, fork_refusal, regroup_refusal, setsid_refusal}
+use Rattle.kernel_rules.specs.Replies.{is_fresh, allows}
 use Rattle.kernel_model.specs.Sent.{receives, sent_to_parent, sent_by_kill}
 use Rattle.kernel_model.specs.Ending.{sent_by_end, after_end}
 use Rattle.kernel_model.specs.Events.{delivered_at, stopped_at, continued_at, after_event}

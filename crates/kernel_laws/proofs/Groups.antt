@@ -7,8 +7,8 @@ use Rattle.std.proofs.lemmas.Bool.{eqb-true, eq-eqb, and_parts}
 use Rattle.unix_names.specs.declared.Pid.{Pid}
 use Rattle.unix_names.specs.States.{is_living}
 use Rattle.signal_state.specs.Signals.{IsKept}
-use Rattle.kernel_model.specs.declared.rows.Row.{Row}
-use Rattle.kernel_model.specs.Rows.{is_same, is_pid, is_parent, in_group, in_session, is_stopped, row_of, child_count}
+use Rattle.kernel_rules.specs.declared.rows.Row.{Row}
+use Rattle.kernel_rules.specs.Rows.{is_same, is_pid, is_parent, in_group, in_session, is_stopped, row_of, child_count}
 use Rattle.kernel_model.specs.Step.{regrouped_at, leading_at}
 use Rattle.kernel_model.specs.Sound.{IsAlive, IsSoundRow, IsSound}
 use Rattle.list_laws.proofs.Filters.{length-filter-map}

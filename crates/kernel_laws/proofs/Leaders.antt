@@ -5,13 +5,13 @@ use Rattle.std.specs.List.{list_any}
 use Rattle.std.proofs.lemmas.Bool.{eqb-true, eq-eqb, or_parts}
 use Rattle.unix_names.specs.declared.Pid.{Pid}
 use Rattle.unix_calls.specs.declared.Entry.{Entry}
-use Rattle.kernel_model.specs.declared.rows.Row.{Row}
+use Rattle.kernel_rules.specs.declared.rows.Row.{Row}
 use Rattle.kernel_model.specs.declared.verdict.Verdict.TheVariants.{Legal}
-use Rattle.kernel_model.specs.Rows.{is_pid, in_group, is_session_leader, row_of}
-use Rattle.kernel_model.specs.Refusals.{is_fixed_in_group}
+use Rattle.kernel_rules.specs.Rows.{is_pid, in_group, is_session_leader, row_of, AreDistinct}
+use Rattle.kernel_rules.specs.Refusals.{is_fixed_in_group}
 use Rattle.kernel_model.specs.Step.{process_of, verdict, newborn, regrouped_at, leading_at, after}
 use Rattle.kernel_model.specs.Legal.{boot, after_entries, IsLegalFrom}
-use Rattle.kernel_model.specs.Sound.{AreDistinct, IsSound}
+use Rattle.kernel_model.specs.Sound.{IsSound}
 use Rattle.list_laws.proofs.Filters.{some_same}
 use Rattle.list_laws.proofs.Finding.{comes-append, comes-map}
 use Rattle.list_laws.proofs.Elements.{any_no}

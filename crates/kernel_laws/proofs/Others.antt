@@ -21,14 +21,13 @@ use Rattle.unix_calls.specs.declared.Entry.TheVariants.{Called, Happened}
 use Rattle.unix_calls.specs.Calls.{target_of}
 use Rattle.signal_state.specs.Signals.{Signals}
 use Rattle.signal_state.specs.Sig.{generated_all, after_exec, with_action, with_mask, delivered, stopped_by, resumed}
-use Rattle.kernel_model.specs.declared.rows.Row.{Row}
-use Rattle.kernel_model.specs.Rows.{pid, is_pid, row_of}
-use Rattle.kernel_model.specs.Refusals.{target_pid, wanted_group}
+use Rattle.kernel_rules.specs.declared.rows.Row.{Row}
+use Rattle.kernel_rules.specs.Rows.{pid, is_pid, row_of, AreDistinct}
+use Rattle.kernel_rules.specs.Refusals.{target_pid, wanted_group}
 use Rattle.kernel_model.specs.Sent.{receives, sent_to_parent, sent_by_kill}
 use Rattle.kernel_model.specs.Ending.{sent_by_end}
 use Rattle.kernel_model.specs.Events.{stopped_at, continued_at, after_event}
 use Rattle.kernel_model.specs.Step.{process_of, newborn, execed_at, is_ended_at, reported_at, regrouped_at, leading_at, after_fork, after_wait, after_kill, after_setpgid, after_setsid, after_action, after_call, row_after, sent_by_call, sent_by_event, sent_by_row, sent_at, sent_by_kill_call}
-use Rattle.kernel_model.specs.Sound.{AreDistinct}
 use Rattle.list_laws.proofs.Filters.{some_same, map-map}
 use Rattle.list_laws.proofs.Finding.{at-append}
 use Rattle.kernel_laws.specs.Effects.{is_end, is_report_of, is_regrouping_of, IsSignalled, OthersAreSignalled}

@@ -1,13 +1,13 @@
 -- the starts of a valid world have pids of their own
-use Rattle.std.proofs.Common.{◌≡◌, ◌≢◌, ◌==◌, ◌<◌, ◌≤◌, ◌+◌, ◌*◌, ◌++◌, ℕ, Bool, true, false, cond, List, [], ◌∷◌, length, take, refl, sym, ap, ◌∙◌, subst, arith, Option, None, Some, All, append_assoc, length-append, zero-add}
+use Rattle.std.proofs.Common.{◌≡◌, ◌≢◌, ◌==◌, ◌<◌, ◌≤◌, ◌+◌, ◌*◌, ◌++◌, ℕ, Bool, true, false, cond, List, [], ◌∷◌, length, take, refl, sym, ap, ◌∙◌, subst, arith, None, Some, append_assoc, length-append, zero-add}
 use Rattle.std.specs.Prelude.{slice_get, count_by}
-use Rattle.std.proofs.lemmas.Bool.{eqb-true, ne_eqb}
+use Rattle.std.proofs.lemmas.Bool.{ne_eqb}
 use Rattle.std.proofs.lemmas.List.{take-append-le, take_all}
 use Rattle.std.proofs.lemmas.List.Sums.{count_by-le-length, sum_by-append}
 use Rattle.unix_calls.specs.declared.Start.{Start}
 use Rattle.unix_calls.specs.declared.World.{World}
 use Rattle.unix_names.specs.declared.NodeId.{NodeId}
-use Rattle.unix_calls.specs.Valid.{EachAt, starts_at, start_pid, IsStart, IsValid}
+use Rattle.unix_calls.specs.Valid.{starts_at, IsStart, IsValid}
 use Rattle.list_laws.specs.Keyed.{at, Distinct}
 use Rattle.list_laws.proofs.Finding.{distinct-append, same_number}
 

@@ -21,11 +21,11 @@ use Rattle.unix_calls.specs.declared.Entry.{Entry}
 use Rattle.unix_calls.specs.declared.Entry.TheVariants.{Called, Happened}
 use Rattle.unix_calls.specs.declared.Target.{Target}
 use Rattle.unix_calls.specs.Calls.{target_of}
-use Rattle.kernel_model.specs.declared.rows.Row.{Row}
+use Rattle.kernel_rules.specs.declared.rows.Row.{Row}
 use Rattle.kernel_model.specs.declared.verdict.Verdict.TheVariants.{Legal}
-use Rattle.kernel_model.specs.Rows.{pid, is_same, in_group, in_session, is_session_leader, row_of, row_named, child_count}
-use Rattle.kernel_model.specs.Refusals.{target_pid, wanted_group, is_own, is_execed_child, is_in_session_group, is_fixed_in_group, regroup_refusal, setsid_refusal, fork_refusal, action_refusal}
-use Rattle.kernel_model.specs.Replies.{is_fresh, allows}
+use Rattle.kernel_rules.specs.Rows.{pid, is_same, in_group, in_session, is_session_leader, row_of, row_named, child_count}
+use Rattle.kernel_rules.specs.Refusals.{target_pid, wanted_group, is_own, is_execed_child, is_in_session_group, is_fixed_in_group, regroup_refusal, setsid_refusal, fork_refusal, action_refusal}
+use Rattle.kernel_rules.specs.Replies.{is_fresh, allows}
 use Rattle.kernel_model.specs.Sent.{sent_to_parent, sent_by_kill}
 use Rattle.kernel_model.specs.Events.{stopped_at, continued_at, after_event}
 use Rattle.kernel_model.specs.Step.{after_fork, after_wait, after_kill, regrouped_at, after_setpgid, after_setsid, after_action, after_call, row_after, row_verdict}

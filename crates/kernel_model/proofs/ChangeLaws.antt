@@ -1,11 +1,11 @@
 -- a change of one process changes its row and no other
-use Rattle.std.proofs.Common.{◌≡◌, Bool, true, false, refl, subst}
+use Rattle.std.proofs.Common.{◌≡◌, true, false, refl, subst}
 use Rattle.std.proofs.lemmas.Bool.{eq-eqb}
 use Rattle.unix_names.specs.declared.Pid.{Pid}
-use Rattle.kernel_model.specs.declared.rows.Row.{Row}
+use Rattle.kernel_rules.specs.declared.rows.Row.{Row}
 use Rattle.kernel_model.specs.declared.changes.Change.{Change}
 use Rattle.kernel_model.specs.declared.changes.Change.TheVariants.{Delivered, Stopped, Continued, Ended, Reported, Execed, Regrouped, Leading, Acting, Masked}
-use Rattle.kernel_model.specs.Rows.{is_pid}
+use Rattle.kernel_rules.specs.Rows.{is_pid}
 use Rattle.kernel_model.specs.Changes.{changed, changed_at}
 
 pub changed_elsewhere : (p : Pid) (change : Change) (c : Row) → is_pid p c ≡ false → changed_at p change c ≡ c

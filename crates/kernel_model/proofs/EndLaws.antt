@@ -1,20 +1,19 @@
 -- the groups that an end leaves orphaned, as the code finds them
-use Rattle.std.proofs.Common.{◌≡◌, ◌∙◌, ◌&&◌, ◌||◌, not, Bool, true, false, cond, List, [], ◌∷◌, ◌++◌, refl, sym, ap, inl, inr}
+use Rattle.std.proofs.Common.{◌≡◌, ◌∙◌, ◌&&◌, ◌||◌, not, Bool, true, false, cond, List, [], ◌∷◌, refl, sym, ap}
 use Rattle.std.specs.Prelude.{map, filter, if◌then◌else◌}
 use Rattle.std.specs.List.{list_any}
 use Rattle.std.proofs.lemmas.Bool.{eqb-true, and_parts}
 use Rattle.std.proofs.lemmas.Map.Views.{any-filter_same}
 use Rattle.unix_names.specs.declared.Pid.{Pid}
 use Rattle.unix_names.specs.declared.WaitStatus.{WaitStatus}
-use Rattle.unix_names.specs.declared.Signal.{Signal}
 use Rattle.unix_names.specs.declared.Life.{Life}
 use Rattle.unix_names.specs.declared.Life.TheVariants.{Ended}
 use Rattle.unix_names.specs.States.{is_living}
 use Rattle.signal_state.specs.Sig.{generated_all}
-use Rattle.kernel_model.specs.declared.rows.Row.{Row}
-use Rattle.kernel_model.specs.Rows.{pid, is_pid, is_same, in_group, is_stopped}
-use Rattle.kernel_model.specs.Orphans.{is_orphaned, is_stopped_in, is_newly_orphaned}
-use Rattle.kernel_model.specs.Sent.{receives, received}
+use Rattle.kernel_rules.specs.declared.rows.Row.{Row}
+use Rattle.kernel_rules.specs.Rows.{pid, is_pid, is_same, in_group, is_stopped}
+use Rattle.kernel_rules.specs.Orphans.{is_orphaned, is_stopped_in, is_newly_orphaned}
+use Rattle.kernel_model.specs.Sent.{received}
 use Rattle.kernel_model.specs.Ending.{ended_at, is_vanishing, given_up, is_ended_child, rows_left, sent_by_end, after_end}
 use Rattle.kernel_model.specs.Changes.{is_among, is_at_risk, is_left, sent_with}
 

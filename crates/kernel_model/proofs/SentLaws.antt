@@ -4,7 +4,7 @@ use Rattle.unix_names.specs.declared.Signal.{Signal}
 use Rattle.unix_names.specs.States.{is_living}
 use Rattle.signal_state.specs.Signals.{Signals}
 use Rattle.signal_state.specs.Sig.{generated_all}
-use Rattle.kernel_model.specs.declared.rows.Row.{Row}
+use Rattle.kernel_rules.specs.declared.rows.Row.{Row}
 use Rattle.kernel_model.specs.Sent.{receives, received, sent_nothing}
 
 sig_same : (x : Signals) (living : Bool) (list : List Signal) → list ≡ [] → generated_all x (cond living list []) ≡ x

@@ -1,5 +1,5 @@
 -- changes of one process's row, as the code makes them
-use Rattle.std.specs.Prelude.{ℕ, Bool, true, false, List, [], ◌∷◌, ◌++◌, ◌≡◌, ◌&&◌, not, Option, None, Some, if◌then◌else◌}
+use Rattle.std.specs.Prelude.{Bool, true, List, [], ◌∷◌, ◌++◌, ◌≡◌, ◌&&◌, not, None, Some, if◌then◌else◌}
 use Rattle.std.specs.List.{list_any}
 use Rattle.unix_names.specs.declared.Pid.{Pid}
 use Rattle.unix_names.specs.declared.Signal.{Signal}
@@ -7,12 +7,12 @@ use Rattle.unix_names.specs.declared.Signal.TheVariants.{Hup, Cont}
 use Rattle.unix_names.specs.declared.Life.TheVariants as life
 use Rattle.unix_names.specs.declared.WaitStatus.TheVariants as status
 use Rattle.signal_state.specs.Sig.{delivered, stopped_by, resumed, after_exec, with_action, with_mask}
-use Rattle.kernel_model.specs.declared.rows.Row.{Row}
+use Rattle.kernel_rules.specs.declared.rows.Row.{Row}
 use Rattle.kernel_model.specs.declared.changes.Change.{Change}
 use Rattle.kernel_model.specs.declared.changes.Change.TheVariants.{Delivered, Stopped, Continued, Ended, Reported, Execed, Regrouped, Leading, Acting, Masked}
-use Rattle.kernel_model.specs.Rows.{is_pid, is_same}
-use Rattle.kernel_model.specs.Orphans.{is_orphaned, is_stopped_in}
-use Rattle.kernel_model.specs.Refusals.{action_refusal}
+use Rattle.kernel_rules.specs.Rows.{is_same}
+use Rattle.kernel_rules.specs.Orphans.{is_orphaned, is_stopped_in}
+use Rattle.kernel_rules.specs.Refusals.{action_refusal}
 use Rattle.kernel_model.specs.Sent.{sent_to_parent}
 use Rattle.kernel_model.specs.Ending.{ended_at}
 use Rattle.kernel_model.specs.Events.{delivered_at, stopped_at, continued_at}

@@ -7,9 +7,9 @@ use Rattle.unix_names.specs.declared.Signal.{Signal}
 use Rattle.unix_names.specs.declared.Signal.TheVariants.{Hup, Chld, Cont}
 use Rattle.unix_names.specs.Sets.{has}
 use Rattle.unix_names.specs.States.{is_living}
-use Rattle.kernel_model.specs.declared.rows.Row.{Row}
-use Rattle.kernel_model.specs.Rows.{pid, is_pid, is_parent, row_of}
-use Rattle.kernel_model.specs.Orphans.{is_newly_orphaned}
+use Rattle.kernel_rules.specs.declared.rows.Row.{Row}
+use Rattle.kernel_rules.specs.Rows.{pid, is_pid, is_parent, row_of}
+use Rattle.kernel_rules.specs.Orphans.{is_newly_orphaned}
 use Rattle.kernel_model.specs.Sent.{sent_to_parent, received}
 
 -- ---- first: its own row ends, or goes

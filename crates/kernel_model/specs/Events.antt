@@ -1,80 +1,17 @@
--- what happens to a process without a call of its own (POSIX.1-2017, XSH 2.4)
-use Rattle.std.specs.Prelude.{Bool, true, false, ◌==◌, ◌&&◌, ◌||◌, not, List, map, Some, if◌then◌else◌}
+-- what an event changes: delivery, stopping, continuing (POSIX.1-2017, XSH 2.4)
+use Rattle.std.specs.Prelude.{List, map, Some, if◌then◌else◌}
 use Rattle.unix_names.specs.declared.Pid.{Pid}
 use Rattle.unix_names.specs.declared.Signal.{Signal}
-use Rattle.unix_names.specs.declared.Signal.TheVariants.{Stop}
-use Rattle.unix_names.specs.declared.DefaultAct.{DefaultAct}
-use Rattle.unix_names.specs.declared.DefaultAct.TheVariants.{End, StopIt}
 use Rattle.unix_names.specs.declared.Life.TheVariants as life
 use Rattle.unix_names.specs.declared.WaitStatus.TheVariants as status
-use Rattle.unix_names.specs.Sets.{has}
-use Rattle.unix_names.specs.Signals.{number_of, default_of}
 use Rattle.unix_calls.specs.declared.Event.{Event}
 use Rattle.unix_calls.specs.declared.Event.TheVariants.{Caught, Discarded, StoppedBy, EndedBy, Continued, Moved}
-use Rattle.signal_state.specs.Sig.{deliverable, delivered, stopped_by, resumed, is_dropped_by_default}
-use Rattle.kernel_model.specs.declared.rows.Row.{Row}
-use Rattle.kernel_model.specs.Rows.{is_pid}
-use Rattle.kernel_model.specs.Orphans.{is_orphaned}
+use Rattle.signal_state.specs.Sig.{delivered, stopped_by, resumed}
+use Rattle.kernel_rules.specs.declared.rows.Row.{Row}
+use Rattle.kernel_rules.specs.Rows.{is_pid}
 use Rattle.kernel_model.specs.Sent.{sent_to_parent, received}
 use Rattle.kernel_model.specs.Ending.{after_end}
 
--- ---- conditions
--- the process is not stopped, and nothing is deliverable to it
-abbrev pub can_call : Row → Bool
-can_call r = not r.sig.stopped && (deliverable r.sig == 0)
-
-abbrev pub is_deliverable : Row → Signal → Bool
-is_deliverable r s = has (deliverable r.sig) s
-
--- the action is neither to ignore the signal nor to catch it
-abbrev pub has_default_action : Row → Signal → Bool
-has_default_action r s = not (has r.sig.ignored s) && not (has r.sig.caught s)
-
--- the signal is deliverable, and its action is the default
-abbrev pub acts_by_default : Row → Signal → Bool
-acts_by_default r s = is_deliverable r s && has_default_action r s
-
-abbrev pub is_caught : Row → Signal → Bool
-is_caught r s = is_deliverable r s && has r.sig.caught s
-
-abbrev pub is_stop_act : DefaultAct → Bool
-is_stop_act StopIt = true
-is_stop_act _ = false
-
-abbrev pub is_end_act : DefaultAct → Bool
-is_end_act End = true
-is_end_act _ = false
-
-abbrev pub is_stop_signal : Signal → Bool
-is_stop_signal s = is_stop_act (default_of s)
-
--- the signal whose stop no orphaned group is spared
-abbrev pub is_plain_stop : Signal → Bool
-is_plain_stop s = number_of s == number_of Stop
-
--- a stop signal from a terminal, which an orphaned group is spared
-abbrev pub is_spared : List Row → Row → Signal → Bool
-is_spared rows r s = is_stop_signal s && (not (is_plain_stop s) && is_orphaned rows r.group)
-
-abbrev pub is_discarded : List Row → Row → Signal → Bool
-is_discarded rows r s = acts_by_default r s && (is_dropped_by_default s || is_spared rows r s)
-
-abbrev pub stops : List Row → Row → Signal → Bool
-stops rows r s = acts_by_default r s && (is_stop_signal s && (is_plain_stop s || not (is_orphaned rows r.group)))
-
-abbrev pub ends : Row → Signal → Bool
-ends r s = acts_by_default r s && is_end_act (default_of s)
-
--- the event may happen to the process of row r
-abbrev pub may_happen : List Row → Row → Event → Bool
-may_happen rows r (Caught s) = is_caught r s
-may_happen rows r (Discarded s) = is_discarded rows r s
-may_happen rows r (StoppedBy s) = stops rows r s
-may_happen rows r (EndedBy s) = ends r s
-may_happen rows r Continued = r.sig.due
-may_happen rows r Moved = can_call r
-
--- ---- effects
 -- the signal is no longer pending
 abbrev pub delivered_at : Pid → Signal → Row → Row
 delivered_at p s c = record c { sig = if is_pid p c then delivered c.sig s else c.sig }

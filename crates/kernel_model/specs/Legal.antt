@@ -6,9 +6,9 @@ use Rattle.unix_calls.specs.declared.Entry.{Entry}
 use Rattle.unix_calls.specs.declared.Start.{Start}
 use Rattle.unix_calls.specs.declared.World.{World}
 use Rattle.signal_state.specs.Sig.{fresh}
-use Rattle.kernel_model.specs.declared.rows.Row.{Row}
+use Rattle.kernel_rules.specs.declared.rows.Row.{Row}
 use Rattle.kernel_model.specs.declared.verdict.Verdict.TheVariants.{Legal}
-use Rattle.kernel_model.specs.Rows.{pid}
+use Rattle.kernel_rules.specs.Rows.{pid}
 use Rattle.kernel_model.specs.Step.{verdict, after}
 use Rattle.std.specs.Prelude.{false}
 

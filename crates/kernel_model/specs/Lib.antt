@@ -2,11 +2,6 @@ pub mod Changes
 pub mod Ending
 pub mod Events
 pub mod Legal
-pub mod Orphans
-pub mod Permission
-pub mod Refusals
-pub mod Replies
-pub mod Rows
 pub mod Sent
 pub mod Sound
 pub mod Step

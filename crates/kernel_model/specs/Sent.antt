@@ -5,9 +5,9 @@ use Rattle.unix_names.specs.declared.Signal.TheVariants.{Chld}
 use Rattle.unix_names.specs.States.{is_living}
 use Rattle.unix_calls.specs.declared.Target.{Target}
 use Rattle.signal_state.specs.Sig.{generated_all}
-use Rattle.kernel_model.specs.declared.rows.Row.{Row}
-use Rattle.kernel_model.specs.Rows.{is_pid}
-use Rattle.kernel_model.specs.Refusals.{is_permitted}
+use Rattle.kernel_rules.specs.declared.rows.Row.{Row}
+use Rattle.kernel_rules.specs.Rows.{is_pid}
+use Rattle.kernel_rules.specs.Refusals.{is_permitted}
 
 -- a row after its signals are generated for it in order; they have no effect on an ended row
 abbrev pub receives : (Row → List Signal) → Row → Row

@@ -1,15 +1,10 @@
 -- tables that can come about
-use Rattle.std.specs.Prelude.{true, false, ◌≡◌, ◌≢◌, ◌≤◌, ◌⊎◌, List, [], ◌∷◌, Option, None, Some}
+use Rattle.std.specs.Prelude.{true, false, ◌≡◌, ◌≢◌, ◌≤◌, ◌⊎◌, List, Option, None, Some}
 use Rattle.unix_names.specs.declared.Pid.{Pid}
 use Rattle.unix_names.specs.States.{is_living}
 use Rattle.signal_state.specs.Signals.{IsKept}
-use Rattle.kernel_model.specs.declared.rows.Row.{Row}
-use Rattle.kernel_model.specs.Rows.{row_of, is_stopped, child_count}
-
--- no pid comes twice
-abbrev pub AreDistinct : List Row → Type 0
-AreDistinct [] = Unit {0}
-AreDistinct (r ∷ rows) = (row_of rows r.pid ≡ None) × AreDistinct rows
+use Rattle.kernel_rules.specs.declared.rows.Row.{Row}
+use Rattle.kernel_rules.specs.Rows.{row_of, is_stopped, child_count, AreDistinct}
 
 -- there is a row, of a living process
 abbrev pub IsAlive : Option Row → Type 0

@@ -18,16 +18,17 @@ use Rattle.unix_calls.specs.declared.Entry.TheVariants.{Called, Happened}
 use Rattle.unix_calls.specs.declared.Target.{Target}
 use Rattle.unix_calls.specs.Calls.{target_of}
 use Rattle.signal_state.specs.Sig.{child, after_exec, with_action, with_mask}
-use Rattle.kernel_model.specs.declared.rows.Row.{Row}
+use Rattle.kernel_rules.specs.declared.rows.Row.{Row}
 use Rattle.kernel_model.specs.declared.verdict.Rule.TheVariants.{UnknownProcess, SignalFirst, WrongReply, WrongEvent}
 use Rattle.kernel_model.specs.declared.verdict.Verdict.{Verdict}
 use Rattle.kernel_model.specs.declared.verdict.Verdict.TheVariants.{Legal, Illegal}
-use Rattle.kernel_model.specs.Rows.{pid, is_pid, row_of}
-use Rattle.kernel_model.specs.Refusals.{target_pid, wanted_group}
-use Rattle.kernel_model.specs.Replies.{allows}
+use Rattle.kernel_rules.specs.Rows.{pid, is_pid, row_of}
+use Rattle.kernel_rules.specs.Refusals.{target_pid, wanted_group}
+use Rattle.kernel_rules.specs.Replies.{allows}
 use Rattle.kernel_model.specs.Sent.{received, sent_nothing, sent_to_parent, sent_by_kill}
 use Rattle.kernel_model.specs.Ending.{sent_by_end, after_end}
-use Rattle.kernel_model.specs.Events.{can_call, may_happen, after_event}
+use Rattle.kernel_rules.specs.Conditions.{can_call, may_happen}
+use Rattle.kernel_model.specs.Events.{after_event}
 
 -- ---- what the rules say
 abbrev pub call_verdict : List Row → Row → Call → Reply → Verdict

@@ -1,14 +1,13 @@
 // What a call changes.
 ghost use Rattle.std.specs.Prelude.{◌≡◌, Bool, true, None, Some, map, filter, not, OnOk, OnErr};
 ghost use Rattle.unix_calls.specs.Calls.{HasNames, IsName};
-ghost use Rattle.kernel_model.specs.Refusals.{action_refusal};
-ghost use Rattle.kernel_model.specs.Replies.{allows};
+ghost use Rattle.kernel_rules.specs.Refusals.{action_refusal};
+ghost use Rattle.kernel_rules.specs.Replies.{allows};
 ghost use Rattle.kernel_model.specs.Step.{newborn, after_fork, is_ended_at, after_wait, after_kill, after_setpgid, after_setsid, after_action, after_call};
 
 use crate::changes::{Change, change_row, signal_targets};
 use crate::ending::end;
-use crate::refusals::{target_pid, wanted_group};
-use crate::rows::Row;
+use kernel_rules::{Row, target_pid, wanted_group};
 use unix_calls::{Call, Reply, Target, target_of};
 use unix_names::{Act, Life, NoMemory, Pid, Signal, WaitStatus, is_living, signal_of};
 

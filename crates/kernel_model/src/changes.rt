@@ -1,11 +1,10 @@
 // Changes of one process's row, and signals that are generated for rows.
 ghost use Rattle.std.specs.Prelude.{◌≡◌, map};
-ghost use Rattle.kernel_model.specs.Refusals.{action_refusal};
+ghost use Rattle.kernel_rules.specs.Refusals.{action_refusal};
 ghost use Rattle.kernel_model.specs.Changes.{changed, changed_at, IsAllowed, is_among, sent_with};
 ghost use Rattle.kernel_model.specs.Sent.{receives, received, sent_to_parent, sent_by_kill};
 
-use crate::refusals::is_permitted;
-use crate::rows::Row;
+use kernel_rules::{Row, is_permitted};
 use unix_calls::Target;
 use unix_names::{Act, Life, Pid, SigSet, Signal, WaitStatus, is_living};
 

@@ -2,13 +2,12 @@
 ghost use Rattle.std.specs.Prelude.{◌≡◌, ◌&&◌, not, map, filter, OnOk, OnErr, IfOk};
 ghost use Rattle.unix_names.specs.declared.Pid.{Pid};
 ghost use Rattle.kernel_model.specs.Changes.{is_among, is_at_risk, is_left};
-ghost use Rattle.kernel_model.specs.Rows.{is_pid, is_stopped};
-ghost use Rattle.kernel_model.specs.Orphans.{is_orphaned};
+ghost use Rattle.kernel_rules.specs.Rows.{is_pid, is_stopped};
+ghost use Rattle.kernel_rules.specs.Orphans.{is_orphaned};
 ghost use Rattle.kernel_model.specs.Ending.{ignores_children, vanishes, with_end, given_up, is_ended_child, without_children, rows_left, after_end};
 
 use crate::changes::{Change, change_row, is_among, signal_end};
-use crate::orphans::{has_stopped, is_orphaned};
-use crate::rows::{Row, find_row, is_stopped};
+use kernel_rules::{Row, find_row, has_stopped, is_orphaned, is_stopped};
 use unix_names::{NoMemory, Pid, SYSTEM, Signal, WaitStatus, is_living};
 
 fn ignores_children(parent: Option<Row>) -> bool

@@ -5,10 +5,9 @@ ghost use Rattle.kernel_model.specs.Step.{call_verdict, event_verdict, row_verdi
 ghost use Rattle.kernel_model.specs.Legal.{boot, booted, joined_row, first_row, row_with};
 
 use crate::calls::call;
-use crate::events::{can_call, happen, may_happen};
-use crate::replies::allows;
-use crate::rows::{Row, find_row};
+use crate::events::happen;
 use crate::verdict::{Rule, Verdict};
+use kernel_rules::{Row, allows, can_call, find_row, may_happen};
 use signal_state::Sig;
 use std::alloc::Global;
 use std::marker::Model;
@@ -23,7 +22,7 @@ pub struct Kernel {
 
 impl Model for Kernel {
     ghost use Rattle.std.specs.Prelude.{List};
-    ghost use Rattle.kernel_model.specs.declared.rows.Row.{Row};
+    ghost use Rattle.kernel_rules.specs.declared.rows.Row.{Row};
 
     ghost Value = { List Row };
 

@@ -1,4 +1,4 @@
-//! The one kernel: a table of processes, what each call may answer, what may happen to a process, and the table afterwards.
+//! The one kernel: a table of processes, what the rules say of an entry, and the table after it.
 #![tactic(auto)]
 
 mod calls;
@@ -6,14 +6,10 @@ mod changes;
 mod ending;
 mod events;
 mod kernel;
-mod orphans;
-mod refusals;
-mod replies;
-mod rows;
 mod verdict;
 
 pub use kernel::Kernel;
-pub use rows::Row;
+pub use kernel_rules::Row;
 pub use verdict::{Rule, Verdict};
 
 #[cfg(test)]

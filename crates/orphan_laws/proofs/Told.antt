@@ -1,8 +1,8 @@
 -- what members know of their parents against the table
-use Rattle.std.proofs.Common.{◌≡◌, ◌≢◌, ◌==◌, ◌&&◌, ◌||◌, ◌<◌, ℕ, zero, suc, Bool, true, false, cond, not, List, [], ◌∷◌, length, get_or, refl, sym, ap, ◌∙◌, subst, arith, Option, None, Some, rules, ◌⊎◌, inl, inr}
-use Rattle.std.specs.Prelude.{All, Contains}
+use Rattle.std.proofs.Common.{◌≡◌, ◌==◌, ◌&&◌, ◌||◌, ℕ, Bool, true, false, not, List, [], ◌∷◌, refl, sym, ap, ◌∙◌, subst, Option, None, Some, ◌⊎◌, inl, inr}
+use Rattle.std.specs.Prelude.{All}
 use Rattle.std.specs.List.{list_any}
-use Rattle.std.proofs.lemmas.Bool.{eqb-true, ne_eqb, eq-eqb}
+use Rattle.std.proofs.lemmas.Bool.{ne_eqb, eq-eqb}
 use Rattle.std.proofs.lemmas.List.Elements.{All-head, All-tail}
 use Rattle.std.proofs.lemmas.List.Folds.{list_any_at}
 use Rattle.list_laws.specs.Keyed.{at, Distinct}
@@ -11,11 +11,11 @@ use Rattle.list_laws.proofs.Finding.{found}
 use Rattle.unix_names.specs.declared.Pid.{Pid}
 use Rattle.unix_names.specs.States.{is_living}
 use Rattle.kernel_model.specs.declared.Row.{Row}
-use Rattle.kernel_model.specs.Rows.{pid, row_of, in_group, in_session}
-use Rattle.kernel_model.specs.Sound.{IsSound, AreDistinct, IsAlive}
-use Rattle.kernel_model.specs.Orphans.{is_outside_parent, is_link, is_link_of, is_orphaned, is_stopped_in, is_newly_orphaned}
+use Rattle.kernel_rules.specs.Rows.{row_of, in_group, AreDistinct}
+use Rattle.kernel_model.specs.Sound.{IsSound, IsAlive}
+use Rattle.kernel_rules.specs.Orphans.{is_outside_parent, is_link, is_link_of, is_orphaned, is_stopped_in}
 use Rattle.orphan_rules.specs.declared.Kin.{Kin}
-use Rattle.orphan_rules.specs.Orphans.{is_living_member, is_link as is_link_told, is_link_of as is_link_of_told, orphaned, newly_orphaned}
+use Rattle.orphan_rules.specs.Orphans.{is_living_member, is_link as is_link_told, is_link_of as is_link_of_told, orphaned}
 use Rattle.orphan_rules.proofs.OrphanLaws.{no_link}
 use Rattle.orphan_laws.specs.Kins.{group_told, session_told, kin_of, ListsMembers}
 use Rattle.orphan_laws.specs.Laws.{LinksAgree, OrphanedAgrees, NewlyAgrees}

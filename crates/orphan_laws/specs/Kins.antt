@@ -3,7 +3,7 @@ use Rattle.std.specs.Prelude.{true, ◌≡◌, ◌&&◌, List, Option, None, Som
 use Rattle.unix_names.specs.declared.Pid.{Pid}
 use Rattle.unix_names.specs.States.{is_living}
 use Rattle.kernel_model.specs.declared.Row.{Row}
-use Rattle.kernel_model.specs.Rows.{pid, row_of, in_group}
+use Rattle.kernel_rules.specs.Rows.{pid, row_of, in_group}
 use Rattle.orphan_rules.specs.declared.Kin.{Kin}
 use Rattle.orphan_rules.specs.Orphans.{is_living_member}
 

@@ -3,6 +3,8 @@
 
 mod bag;
 mod held;
+#[cfg(test)]
+mod tests;
 mod vector;
 
 pub use bag::Bag;

@@ -1,7 +1,7 @@
 use Rattle.std.proofs.Common.{◌≡◌, ◌&&◌, not, take}
 use Rattle.std.specs.List.{list_any}
 use Rattle.unix_names.specs.declared.Pid.{Pid}
-use Rattle.kernel_model.specs.Orphans.{is_orphaned, is_stopped_in}
+use Rattle.kernel_rules.specs.Orphans.{is_orphaned, is_stopped_in}
 use Rattle.kernel_model.specs.Changes.{is_among}
 use Rattle.kernel_model.proofs.ending.groups_at_risk.Given as goal
 

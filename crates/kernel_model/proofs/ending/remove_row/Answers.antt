@@ -1,6 +1,6 @@
 use Rattle.std.proofs.Common.{rules, not, ◌&&◌}
 use Rattle.std.proofs.lemmas.Fn.{filter_same}
-use Rattle.kernel_model.specs.Rows.{is_pid}
+use Rattle.kernel_rules.specs.Rows.{is_pid}
 use Rattle.kernel_model.proofs.ending.remove_row.Goals as goal
 
 pub returns : goal.returns

@@ -1,0 +1,4 @@
+pub mod Finished
+pub mod Judge
+pub mod Laws
+pub mod Table

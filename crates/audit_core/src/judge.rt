@@ -1,0 +1,95 @@
+// The judge of histories.
+ghost use Rattle.std.specs.Prelude.{◌≡◌, All, IfOk};
+ghost use Rattle.unix_calls.specs.Calls.{EntryHasNames};
+ghost use Rattle.unix_calls.specs.Valid.{IsValid};
+ghost use Rattle.kernel_model.specs.Step.{after};
+ghost use Rattle.kernel_model.specs.Legal.{boot};
+ghost use Rattle.proc_image.specs.Follows.{first_running, after_entry};
+ghost use Rattle.audit_core.specs.Judge.{IsJudged, IsVerdictAt, with_order};
+ghost use Rattle.audit_core.specs.Table.{running_of, IsKept};
+
+use crate::scripts::{first_images, is_in_order, move_on};
+use kernel_model::{Kernel, Rule, Verdict};
+use ordered_table::Table;
+use proc_image::Image;
+use std::alloc::Global;
+use unix_calls::{Entry, World};
+use unix_names::NoMemory;
+
+/// What is said of a history.
+#[derive(Clone, Copy, Debug, PartialEq, Eq)]
+pub enum Judged {
+    /// Each entry is legal for the one kernel, and each call is its process's next statement.
+    Legal,
+    /// The number of the first entry that breaks a rule, counted from 1, with the first rule that it breaks.
+    IllegalAt(u64, Rule),
+}
+
+/// The kernel and the images of all processes, as they are after the entries that were judged so far.
+#[derive(Debug, Drop)]
+struct Judge {
+    kernel: Kernel,
+    images: Table<Image>,
+}
+
+/// Judges a history, entry by entry. It needn't be finished.
+///
+/// The time for an entry grows with the number of processes, and so does the memory that is taken.
+pub fn audit(alloc: Global, world: &World, entries: &[Entry]) -> Result<Judged, NoMemory>
+    requires valid { IsValid world.now }
+    requires names { All EntryHasNames entries.now }
+    ensures { IfOk result (IsJudged world.now entries.now) }
+{
+    let mut judge = Judge::begin(alloc, world)?;
+    for (i, entry) in entries.iter().enumerate() {
+        match judge.step(alloc, world, entry)? {
+            Verdict::Legal => {}
+            Verdict::Illegal(rule) => return Ok(Judged::IllegalAt(i as u64 + 1, rule)),
+        }
+    }
+    Ok(Judged::Legal)
+}
+
+impl Judge {
+    /// The judge before the first entry.
+    fn begin(alloc: Global, world: &World) -> Result<Judge, NoMemory>
+        requires { IsValid world.now }
+        ensures kernel { IfOk result (λ judge. judge.kernel ≡ boot world.now) }
+        ensures running { IfOk result (λ judge. running_of judge.images ≡ first_running world.now) }
+        ensures kept { IfOk result (λ judge. IsKept world.now judge.images) }
+    {
+        let kernel = Kernel::boot(alloc, world)?;
+        let images = first_images(alloc, world)?;
+        Ok(Judge { kernel, images })
+    }
+
+    /// Judges the next entry, and takes it in where it breaks no rule. An illegal entry ends the judgement: the judge is of no use afterwards.
+    fn step(&mut self, alloc: Global, world: &World, entry: &Entry) -> Result<Verdict, NoMemory>
+        requires valid { IsValid world.now }
+        requires names { EntryHasNames entry.now }
+        requires kept { IsKept world.now self.old.images }
+        ensures verdict { IfOk result (IsVerdictAt world.now self.old.kernel (running_of self.old.images) entry.now) }
+        ensures kernel { result ≡ Ok Verdict.Legal → self.new.kernel ≡ after self.old.kernel entry.now }
+        ensures running { result ≡ Ok Verdict.Legal → running_of self.new.images ≡ after_entry world.now (running_of self.old.images) entry.now }
+        ensures kept { result ≡ Ok Verdict.Legal → IsKept world.now self.new.images }
+    {
+        let in_order = is_in_order(&self.images, world, entry);
+        let told = self.kernel.step(entry)?;
+        let verdict = with_order(in_order, told);
+        if let Verdict::Legal = verdict {
+            move_on(&mut self.images, alloc, world, entry)?;
+        }
+        Ok(verdict)
+    }
+}
+
+// The kernel's verdict, with the order of the script asked right after the process.
+fn with_order(in_order: bool, told: Verdict) -> Verdict
+    ensures { result ≡ with_order in_order told }
+{
+    match told {
+        Verdict::Illegal(Rule::UnknownProcess) => told,
+        _ if in_order => told,
+        _ => Verdict::Illegal(Rule::ScriptOrder),
+    }
+}

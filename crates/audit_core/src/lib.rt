@@ -1,0 +1,16 @@
+//! The judge of histories: whether each entry is legal for the one kernel, and each call its process's next statement.
+#![tactic(auto)]
+
+ghost use Rattle.audit_core.specs.Laws.{HasOneJudgement};
+
+mod judge;
+mod scripts;
+#[cfg(test)]
+mod tests;
+
+pub use judge::{Judged, audit};
+
+/// A history has one judgement: it isn't legal and illegal too, and no two entries are the first illegal one, nor two rules the first that it breaks.
+pub fn judgements_are_single()
+    ensures { HasOneJudgement }
+{}

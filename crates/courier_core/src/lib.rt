@@ -1,0 +1,9 @@
+//! Couriers: they carry a process's image from node to node and gather the records that its job needs, the least name first.
+#![tactic(auto)]
+
+mod courier;
+mod wants;
+#[cfg(test)]
+mod tests;
+
+pub use courier::{Courier, Message};

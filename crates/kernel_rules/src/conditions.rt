@@ -1,0 +1,78 @@
+// When a process may call, and what may happen to it without a call of its own (POSIX.1-2017, XSH 2.4).
+ghost use Rattle.std.specs.Prelude.{◌≡◌};
+ghost use Rattle.kernel_rules.specs.Conditions.{can_call, is_deliverable, has_default_action, acts_by_default, is_caught, is_stop_signal, is_plain_stop, is_spared, is_discarded, stops, ends, may_happen};
+
+use crate::orphans::is_orphaned;
+use crate::rows::Row;
+use signal_state::is_ignored_by_default;
+use unix_calls::Event;
+use unix_names::{DefaultAct, Signal, default_of};
+
+/// Whether a process is not stopped and nothing is deliverable to it.
+pub fn can_call(row: &Row) -> bool
+    ensures { result ≡ can_call row.now }
+{
+    !row.sig.stopped && row.sig.deliverable().is_empty()
+}
+
+fn acts_by_default(row: &Row, signal: Signal) -> bool
+    ensures { result ≡ acts_by_default row.now signal }
+{
+    row.sig.deliverable().has(signal) && !row.sig.ignored.has(signal) && !row.sig.caught.has(signal)
+}
+
+/// Whether a signal is deliverable to a process and its action is to catch it.
+pub fn is_caught(row: &Row, signal: Signal) -> bool
+    ensures { result ≡ is_caught row.now signal }
+{
+    row.sig.deliverable().has(signal) && row.sig.caught.has(signal)
+}
+
+fn is_stop_signal(signal: Signal) -> bool
+    ensures { result ≡ is_stop_signal signal }
+{
+    matches!(default_of(signal), DefaultAct::StopIt)
+}
+
+/// Whether a stop signal from a terminal comes to a member of an orphaned group.
+fn is_spared(rows: &[Row], row: &Row, signal: Signal) -> bool
+    ensures { result ≡ is_spared rows.now row.now signal }
+{
+    is_stop_signal(signal) && signal != Signal::Stop && is_orphaned(rows, row.group)
+}
+
+/// Whether a signal is deliverable to a process and its default action does nothing there.
+pub fn is_discarded(rows: &[Row], row: &Row, signal: Signal) -> bool
+    ensures { result ≡ is_discarded rows.now row.now signal }
+{
+    acts_by_default(row, signal) && (is_ignored_by_default(signal) || is_spared(rows, row, signal))
+}
+
+/// Whether a signal is deliverable to a process and its default action stops it. A stop signal from a terminal stops no member of an orphaned group.
+pub fn stops(rows: &[Row], row: &Row, signal: Signal) -> bool
+    ensures { result ≡ stops rows.now row.now signal }
+{
+    acts_by_default(row, signal)
+        && is_stop_signal(signal)
+        && (signal == Signal::Stop || !is_orphaned(rows, row.group))
+}
+
+fn ends(row: &Row, signal: Signal) -> bool
+    ensures { result ≡ ends row.now signal }
+{
+    acts_by_default(row, signal) && matches!(default_of(signal), DefaultAct::End)
+}
+
+/// Whether an event may happen to a process.
+pub fn may_happen(rows: &[Row], row: &Row, event: Event) -> bool
+    ensures { result ≡ may_happen rows.now row.now event }
+{
+    match event {
+        Event::Caught(signal) => is_caught(row, signal),
+        Event::Discarded(signal) => is_discarded(rows, row, signal),
+        Event::StoppedBy(signal) => stops(rows, row, signal),
+        Event::EndedBy(signal) => ends(row, signal),
+        Event::Continued => row.sig.due,
+        Event::Moved => can_call(row),
+    }
+}

@@ -1,0 +1,14 @@
+//! The rules of the one kernel: over a table of processes, what each call may answer, and what may happen to a process.
+#![tactic(auto)]
+
+mod conditions;
+mod orphans;
+mod refusals;
+mod replies;
+mod rows;
+
+pub use conditions::{can_call, is_caught, is_discarded, may_happen, stops};
+pub use orphans::{has_stopped, is_orphaned};
+pub use refusals::{MOST_CHILDREN, is_match, is_permitted, refusal, target_pid, wanted_group};
+pub use replies::{allows, is_fresh, is_ready_match, report_of};
+pub use rows::{Row, find_named, find_row, is_stopped};

@@ -1,0 +1,46 @@
+// Orphaned process groups (POSIX.1-2017, XBD chapter 3, Orphaned Process Group).
+ghost use Rattle.std.specs.Prelude.{◌≡◌};
+ghost use Rattle.std.specs.List.{list_any};
+ghost use Rattle.kernel_rules.specs.Orphans.{is_outside_parent, is_link, is_link_of, is_orphaned, is_stopped_in};
+
+use crate::rows::{Row, find_row, is_stopped};
+use unix_names::{Pid, is_living};
+
+/// Whether a parent is in the member's session, and in another group.
+fn is_outside_parent(member: &Row, parent: Option<Row>) -> bool
+    ensures { result ≡ is_outside_parent member.now parent }
+{
+    match parent {
+        None => false,
+        Some(parent) => parent.group != member.group && parent.session == member.session,
+    }
+}
+
+/// Whether a process lives and its parent keeps its group from being orphaned.
+fn is_link(rows: &[Row], member: &Row) -> bool
+    ensures { result ≡ is_link rows.now member.now }
+{
+    is_living(member.life) && is_outside_parent(member, find_row(rows, member.parent))
+}
+
+fn has_link(rows: &[Row], group: Pid) -> bool
+    ensures { result ≡ list_any (is_link_of rows.now group) rows.now }
+{
+    rows.iter()
+        .any(|row| row.group == group && is_link(rows, row))
+}
+
+/// Whether the parent of each living member of a group is itself a member or is in another session.
+pub fn is_orphaned(rows: &[Row], group: Pid) -> bool
+    ensures { result ≡ is_orphaned rows.now group }
+{
+    !has_link(rows, group)
+}
+
+/// Whether a group has a stopped member.
+pub fn has_stopped(rows: &[Row], group: Pid) -> bool
+    ensures { result ≡ list_any (is_stopped_in group) rows.now }
+{
+    rows.iter()
+        .any(|row| row.group == group && is_stopped(row.life))
+}

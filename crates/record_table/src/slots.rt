@@ -1,0 +1,210 @@
+// The slots of a node.
+ghost use Rattle.std.specs.Prelude.{◌≡◌, [], true, IfOk, IfErr, OnOk, OnErr, IsOk};
+ghost use Rattle.record_bag.specs.Kinds.{of_kind};
+
+use crate::slot::{
+    GroupSlot, Line, NamedSlot, Slot, VprocSlot, in_groups, in_vprocs, nobody, of_group, of_vproc,
+    swap_in,
+};
+use ordered_table::Table;
+use record_bag::Held;
+use std::alloc::Global;
+use unix_names::{Name, NoMemory, NodeId, Pid, is_living};
+use vproc_record::Vproc;
+
+/// What a record's home answers to who asks for the record.
+#[derive(Debug, Drop)]
+pub enum Taken {
+    Here(Held),
+    Out,
+}
+
+/// What becomes of a record that comes back: it rests, and its process was nudged meanwhile or not; or it goes on to the first who waits.
+#[derive(Debug, Drop)]
+pub enum PutBack<C> {
+    Rests { nudged: bool },
+    Handed { waiter: C, held: Held },
+}
+
+/// What becomes of a nudge: the process's record is out, and now marked; the process is to be poked at its place; or there is none that has not ended.
+#[derive(Clone, Copy, Debug, PartialEq, Eq)]
+pub enum Nudged {
+    Marked,
+    At(NodeId),
+    Nobody,
+}
+
+/// The homes of records, one for each name. A name never seen is at home and absent.
+#[derive(Debug, Drop)]
+pub struct Slots<C> {
+    pub vprocs: Table<VprocSlot<C>>,
+    pub groups: Table<GroupSlot<C>>,
+}
+
+impl<C: Drop> Slots<C> {
+    ghost use Rattle.record_table.specs.Places.{nobody, line_of, taken, left, put_back, given, joined, nudged, marked};
+    ghost use Rattle.record_table.specs.Slots.{slot_at, with_slot, process, resting, is_known, is_out, after_take, after_nudge, SameElsewhere};
+    ghost use Rattle.record_table.specs.declared.slot.Slot.TheVariants.{Out};
+
+    /// Slots in which every record is at home and absent. It takes no memory.
+    pub fn new(alloc: Global) -> Slots<C>
+        ensures vprocs { result.vprocs ≡ [] }
+        ensures groups { result.groups ≡ [] }
+    {
+        Slots {
+            vprocs: Table::new(alloc),
+            groups: Table::new(alloc),
+        }
+    }
+
+    /// Whether a record is out. It takes no memory.
+    pub fn is_out(&self, name: Name) -> bool
+        ensures { result ≡ is_out self.now name }
+    {
+        match name {
+            Name::V(pid) => matches!(self.vprocs.get(pid), Some(Slot::Out(_))),
+            Name::G(pid) => matches!(self.groups.get(pid), Some(Slot::Out(_))),
+        }
+    }
+
+    /// Takes the record that rests under a name; it is then out, without a mark and with nobody in line. Where it is out already nothing changes.
+    pub fn take(&mut self, alloc: Global, name: Name) -> Result<Taken, NoMemory>
+        ensures taken { IfOk result (λ t. t ≡ taken (slot_at self.old name)) }
+        ensures ok { OnOk result (self.new ≡ after_take self.old name (slot_at self.old name)) }
+        ensures err { OnErr result (self.new ≡ self.old) }
+
+        // Who asks for a record that is out is told without memory.
+        ensures out { is_out self.old name ≡ true → IsOk result }
+
+        // The record is out afterwards, and the other names are as before.
+        ensures stands { OnOk result (slot_at self.new name ≡ left (slot_at self.old name)) }
+        ensures others { SameElsewhere name self.old self.new }
+    {
+        if self.is_out(name) {
+            return Ok(Taken::Out);
+        }
+        match self.swap(name, Slot::Out(nobody(alloc)))? {
+            Slot::Home(held) => Ok(Taken::Here(held)),
+            Slot::Out(_) => unreachable!(),
+        }
+    }
+
+    /// Brings a record back: to the first in line, and then it stays out; or it rests without a mark. A record of the other kind counts as absent. It takes no memory.
+    pub fn put(&mut self, name: Name, held: Held) -> PutBack<C>
+        requires { is_out self.old name ≡ true }
+        ensures answer { let line = line_of (slot_at self.old name) in result ≡ put_back line.is_marked line.waiters (of_kind name held) }
+        ensures after { let line = line_of (slot_at self.old name) in self.new ≡ with_slot self.old name (given line.is_marked line.waiters held) }
+
+        // It rests there, or is still out; the other names are as before.
+        ensures stands { let line = line_of (slot_at self.old name) in slot_at self.new name ≡ given line.is_marked line.waiters (of_kind name held) }
+        ensures others { SameElsewhere name self.old self.new }
+    {
+        match self.replace(name, Slot::Home(held)) {
+            Slot::Out(mut line) => match line.waiters.pop() {
+                None => PutBack::Rests {
+                    nudged: line.is_marked,
+                },
+                Some(waiter) => match self.replace(name, Slot::Out(line)) {
+                    Slot::Home(held) => PutBack::Handed { waiter, held },
+                    Slot::Out(_) => unreachable!(),
+                },
+            },
+            Slot::Home(_) => unreachable!(),
+        }
+    }
+
+    /// Puts the record of a new process at home, under its id.
+    pub fn create(&mut self, vproc: Vproc) -> Result<(), NoMemory>
+        requires { slot_at self.old (process vproc.pid) ≡ resting None }
+        ensures ok { OnOk result (self.new ≡ with_slot self.old (process vproc.pid) (resting (Some vproc))) }
+        ensures rests { OnOk result (slot_at self.new (process vproc.pid) ≡ resting (Some vproc)) }
+        ensures err { OnErr result (self.new ≡ self.old) }
+        ensures others { SameElsewhere (process vproc.pid) self.old self.new }
+    {
+        let name = Name::V(vproc.pid);
+        self.swap(name, Slot::Home(Held::V(Some(vproc))))?;
+        Ok(())
+    }
+
+    /// Joins the end of those who wait for a record that is out. Refused for want of memory alone; who waits then comes back.
+    pub fn wait(&mut self, name: Name, waiter: C) -> Result<(), C>
+        requires { is_out self.old name ≡ true }
+        ensures ok { OnOk result (self.new ≡ with_slot self.old name (Out (joined (line_of (slot_at self.old name)) waiter))) }
+        ensures stands { OnOk result (slot_at self.new name ≡ Out (joined (line_of (slot_at self.old name)) waiter)) }
+        ensures back { IfErr result (λ c. c ≡ waiter) }
+        ensures err { OnErr result (self.new ≡ self.old) }
+        ensures others { SameElsewhere name self.old self.new }
+    {
+        match self.replace(name, Slot::Home(Held::absent(name))) {
+            Slot::Out(mut line) => {
+                let joined = line.waiters.push(waiter);
+                self.replace(name, Slot::Out(line));
+                joined
+            }
+            Slot::Home(_) => unreachable!(),
+        }
+    }
+
+    /// Marks a process whose record is out, or tells where to poke it. It takes no memory.
+    pub fn nudge(&mut self, pid: Pid) -> Nudged
+        ensures answer { result ≡ nudged (slot_at self.old (process pid)) }
+        ensures after { self.new ≡ after_nudge self.old pid (slot_at self.old (process pid)) }
+        ensures stands { slot_at self.new (process pid) ≡ marked (slot_at self.old (process pid)) }
+        ensures others { SameElsewhere (process pid) self.old self.new }
+    {
+        if self.is_out(Name::V(pid)) {
+            self.mark(pid);
+            return Nudged::Marked;
+        }
+        match self.vprocs.get(pid) {
+            Some(Slot::Home(Some(vproc))) if is_living(vproc.life) => Nudged::At(vproc.loc),
+            _ => Nudged::Nobody,
+        }
+    }
+
+    // Puts a slot at the home of a name and gives the one that stood there.
+    fn swap(&mut self, name: Name, slot: NamedSlot<C>) -> Result<NamedSlot<C>, NoMemory>
+        ensures before { IfOk result (λ old. old ≡ slot_at self.old name) }
+        ensures ok { OnOk result (self.new ≡ with_slot self.old name slot) }
+        ensures err { OnErr result (self.new ≡ self.old) }
+        ensures known { is_known self.old name ≡ true → IsOk result }
+    {
+        match name {
+            Name::V(pid) => Ok(of_vproc(swap_in(&mut self.vprocs, pid, in_vprocs(slot))?)),
+            Name::G(pid) => Ok(of_group(swap_in(&mut self.groups, pid, in_groups(slot))?)),
+        }
+    }
+
+    // The same for a name that was seen. It takes no memory.
+    fn replace(&mut self, name: Name, slot: NamedSlot<C>) -> NamedSlot<C>
+        requires { is_known self.old name ≡ true }
+        ensures before { result ≡ slot_at self.old name }
+        ensures after { self.new ≡ with_slot self.old name slot }
+        ensures known { is_known self.new name ≡ true }
+    {
+        match self.swap(name, slot) {
+            Ok(old) => old,
+            Err(_) => unreachable!(),
+        }
+    }
+
+    // Marks a process whose record is out.
+    fn mark(&mut self, pid: Pid)
+        requires { is_out self.old (process pid) ≡ true }
+        ensures { self.new ≡ after_nudge self.old pid (slot_at self.old (process pid)) }
+    {
+        let name = Name::V(pid);
+        match self.replace(name, Slot::Home(Held::V(None))) {
+            Slot::Out(line) => {
+                self.replace(
+                    name,
+                    Slot::Out(Line {
+                        is_marked: true,
+                        waiters: line.waiters,
+                    }),
+                );
+            }
+            Slot::Home(_) => unreachable!(),
+        }
+    }
+}
