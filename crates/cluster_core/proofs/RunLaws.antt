@@ -29,24 +29,16 @@ at_first world turns p valid few machine history =
     }
 
 -- after one more turn
-pub at_more : (world : World) (turns : List Turn) (i : ℕ) (turn : Turn) (p q : Played) → IsValid world → i < length turns → turn ≡ get_or turns i turn → IsAt world turns i p → q ≡ turned world p turn → IsAt world turns (i + 1) q
-at_more world turns i turn p q valid within here before turns' =
-    let kept = kept_along world (turn_count turn) p (turned world p turn) q turns' (turned-kept world p turn valid before.fits) in
+pub at_more : (world : World) (turns : List Turn) (i : ℕ) (d : Turn) (p q : Played) → IsValid world → i < length turns → IsAt world turns i p → q ≡ turned world p (get_or turns i d) → IsAt world turns (i + 1) q
+at_more world turns i d p q valid within before goes =
+    let turn = get_or turns i d in
+    let kept = kept_along world (turn_count turn) p (turned world p turn) q goes (turned-kept world p turn valid before.fits) in
     let most = kept.serial in
     let room = before.room in
-    let left : total_turns (drop i turns) ≡ turn_count turn + total_turns (drop (suc i) turns) =
-        total_turns-drop turns i turn within ∙ ap (λ (t : Turn). turn_count t + total_turns (drop (suc i) turns)) (sym here) in
+    let left = total_turns-drop turns i d within in
     let next : total_turns (drop (i + 1) turns) ≡ total_turns (drop (suc i) turns) = rw add-one refl in
     record {
-      run = turns' ∙ ap (λ (x : Played). turned world x turn) before.run ∙ ap (turned world (run world (take i turns))) here ∙ sym (run_more world turns i turn within);
+      run = goes ∙ ap (λ (x : Played). turned world x turn) before.run ∙ sym (run_more world turns i d within);
       fits = kept.fits;
       room = omega arith;
     }
-
--- there are pids for the next turn
-pub at_room : (world : World) (turns : List Turn) (i : ℕ) (turn : Turn) (p : Played) → i < length turns → turn ≡ get_or turns i turn → IsAt world turns i p → p.machine.serial + turn_count turn < 2 ^ 32
-at_room world turns i turn p within here before =
-    let room = before.room in
-    let left : total_turns (drop i turns) ≡ turn_count turn + total_turns (drop (suc i) turns) =
-        total_turns-drop turns i turn within ∙ ap (λ (t : Turn). turn_count t + total_turns (drop (suc i) turns)) (sym here) in
-    omega arith
