@@ -1,0 +1,4 @@
+pub mod Ascii
+pub mod ScheduleLaws
+pub mod Texts
+pub mod Turns

@@ -34,7 +34,8 @@ fn put_last(text: &mut String, is_quiet: bool) -> Result<(), AllocError>
     }
 }
 
-fn put_entry(text: &mut String, entry: &Entry) -> Result<(), AllocError>
+/// Puts the line of an entry at the end of a text.
+pub fn put_entry(text: &mut String, entry: &Entry) -> Result<(), AllocError>
     ensures { OnOk result (string_bytes text.new ≡ string_bytes text.old ++ line_of entry.now) }
 {
     match *entry {

@@ -1,0 +1,15 @@
+use Rattle.std.proofs.Common.{◌==◌, not, length, rules, tests}
+use Rattle.std.specs.Str.{bytes_eq}
+use Rattle.std.proofs.lemmas.Iterator.Search.{all_from_yields_List}
+use Rattle.std.proofs.lemmas.Iterator.Consumers.{YieldsList-from_filter, YieldsList-at}
+use Rattle.std.proofs.lemmas.Iterator.Splits.{YieldsList-from_slice_split}
+use Rattle.byte_ends.specs.Text.{is_blank}
+use Rattle.file_parts.proofs.parts.has_all.Goals as goal
+
+pub returns : goal.returns
+returns c =
+    all_from_yields_List (λ word. bytes_eq word c.args.text.now) _ _ c.all.result c.all.ensures.ran (
+    YieldsList-from_filter _ (λ word. not (length word == 0))
+    (YieldsList-at c.filter.ensures.source (YieldsList-from_slice_split _ is_blank c.args.line.now c.split.ensures.rest c.split.ensures.done c.split.ensures.closure (λ x b q k. search (rules, tests))))
+    c.filter.ensures.closure (λ x b q k. search (rules, tests)))
+    (λ x b q k. search (rules, tests))

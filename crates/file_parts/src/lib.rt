@@ -1,0 +1,8 @@
+//! The parts of a file: the world, the schedule and the history, told by their lines.
+#![tactic(auto)]
+
+mod parts;
+#[cfg(test)]
+mod tests;
+
+pub use parts::{Parts, Span, split};

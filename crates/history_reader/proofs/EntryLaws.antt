@@ -1,0 +1,369 @@
+-- what is written of an entry seems to say it
+use Rattle.std.proofs.Common.{◌⊎◌, inl, inr, ◌≡◌, ℕ, suc, ◌+◌, ◌^◌, ◌%◌, ◌<◌, ◌≤◌, nat_lt, nat_le, ℤ, pos, negsuc, Bool, true, false, cond, not, ◌==◌, ◌&&◌, ◌||◌, if◌then◌else◌, List, [], ◌∷◌, ◌++◌, length, take, drop, map, filter, fold, Option, Some, None, refl, ap, sym, ◌∙◌, arith, append-nil, codes}
+use Rattle.std.specs.Prelude.{IsNone, take_while}
+use Rattle.std.specs.List.{list_all}
+use Rattle.std.specs.Fmt.{decimal, signed_decimal}
+use Rattle.std.specs.Str.{bytes_eq}
+use Rattle.std.specs.Str.Parse.{AllDigits, digits_value}
+use Rattle.std.specs.Cmp.Lexicographic.{same_text}
+use Rattle.std.proofs.lemmas.Bool.{cases_Bool, ne_eqb, eq-eqb}
+use Rattle.std.proofs.lemmas.Bool.Decides.{nat_tests}
+use Rattle.std.proofs.lemmas.Fmt.{decimal_is_IsNumeral}
+use Rattle.std.proofs.lemmas.Str.Parse.{digit_from_value}
+use Rattle.std.proofs.lemmas.List.Sums.{take_while-cons}
+use Rattle.std.proofs.Math.Seq.{take-append_seam}
+use borrow.Author.Tests.{eqb-true}
+use Rattle.byte_ends.specs.Text.{IsNumber}
+use Rattle.script_reader.specs.Words.{Word, Row, is_same, word_at, is_number}
+use Rattle.script_reader.proofs.Numbers.{is_number-decides}
+use Rattle.text_laws.proofs.Numbers.{IsNumber-decimal, digits_value-decimal}
+use Rattle.unix_names.specs.declared.Signal.{Signal}
+use Rattle.unix_names.specs.declared.Signal.TheVariants.{Hup, Int, Quit, Abrt, Kill, Usr1, Usr2, Pipe, Alrm, Term, Chld, Cont, Stop, Tstp, Ttin, Ttou, Urg}
+use Rattle.unix_names.specs.declared.Act.{Act}
+use Rattle.unix_names.specs.declared.Act.TheVariants as acts
+use Rattle.unix_names.specs.declared.Errno.{Errno}
+use Rattle.unix_names.specs.declared.Errno.TheVariants.{EPERM, ESRCH, EACCES, EINVAL, ECHILD, EAGAIN}
+use Rattle.unix_names.specs.declared.WaitStatus.{WaitStatus}
+use Rattle.unix_names.specs.declared.WaitStatus.TheVariants as status
+use Rattle.unix_names.specs.Signals.{number_of, word_of, signal_of, signal_named, all_signals}
+use Rattle.unix_names.specs.Sets.{has, added, IsSignals}
+use Rattle.unix_names.proofs.SignalLaws.{signal_named-word_of, signal_named-none, number_of-signal_of, number_of-distinct}
+use Rattle.unix_names.proofs.SetLaws.{has-added, has-none, IsSignals-none, IsSignals-added, same-signals}
+use Rattle.unix_calls.specs.Calls.{IsName, HasNames, EntryHasNames}
+use Rattle.unix_calls.specs.declared.Call.{Call}
+use Rattle.unix_calls.specs.declared.Call.TheVariants as calls
+use Rattle.unix_calls.specs.declared.Reply.{Reply}
+use Rattle.unix_calls.specs.declared.Reply.TheVariants as replies
+use Rattle.unix_calls.specs.declared.Event.{Event}
+use Rattle.unix_calls.specs.declared.Event.TheVariants as events
+use Rattle.unix_calls.specs.declared.Entry.{Entry}
+use Rattle.unix_calls.specs.declared.Entry.TheVariants.{Called, Happened}
+use Rattle.run_text.specs.History.{named, signal_word, set_words, act_word, errno_word, asked_words, call_words, status_words, reply_words, event_words}
+use Rattle.history_reader.specs.declared.verbs.Verb.{Verb}
+use Rattle.history_reader.specs.declared.verbs.Verb.TheVariants as verb
+use Rattle.history_reader.specs.Loose.{number_in, signed_in, number_or, signal_number_in, signal_in, with_named, set_in, act_in, errno_named, status_in, refused_or, worded_reply_in, reply_in, call_of, verb_named, words_before, event_in, said, entry_in}
+use Rattle.history_reader.specs.Reading.{entry_words, CallFits, StatusFits, ReplyFits, Fits}
+use Rattle.text_laws.specs.Plain.{is_plain, are_plain}
+use Rattle.text_laws.proofs.Numbers.{plain-decimal}
+use Rattle.std.proofs.Math.Seq.{drop-append_seam}
+use Rattle.std.proofs.lemmas.List.Folds.{list_all-append}
+use Rattle.history_reader.proofs.LooseLaws.{number-decimal, number-read, number-other, signed-read, signal_number-read, signal-read, set-read, word-not_number, small-pos, small-negsuc}
+
+-- ---- the words of a call, up to the equals sign
+abbrev pub is_inner : Word → Bool
+is_inner word = not (is_same word (codes "="))
+
+equals-not_number : is_number (codes "=") ≡ false
+unfolding is_number
+equals-not_number = refl
+
+inner-number : (n : ℕ) → n < 2 ^ 32 → is_inner (decimal n) ≡ true
+inner-number n h = ap not (number-other (decimal n) (codes "=") (number-decimal n h) equals-not_number)
+
+inner-word : (s : Signal) → is_inner (word_of s) ≡ true
+unfolding is_same
+inner-word Hup = refl
+inner-word Int = refl
+inner-word Quit = refl
+inner-word Abrt = refl
+inner-word Kill = refl
+inner-word Usr1 = refl
+inner-word Usr2 = refl
+inner-word Pipe = refl
+inner-word Alrm = refl
+inner-word Term = refl
+inner-word Chld = refl
+inner-word Cont = refl
+inner-word Stop = refl
+inner-word Tstp = refl
+inner-word Ttin = refl
+inner-word Ttou = refl
+inner-word Urg = refl
+
+inner-signed : (z : ℤ) → IsName z → is_inner (signed_decimal z) ≡ true
+unfolding is_same
+inner-signed (pos n) h = inner-number n (small-pos n h)
+inner-signed (negsuc n) h = refl
+
+inner-signal : (n : ℕ) → n < 2 ^ 32 → is_inner (signal_word n) ≡ true
+inner-signal n h = elim (signal_of n) as (λ o. is_inner (named n o) ≡ true) [ None ↦ inner-number n h | Some s ↦ inner-word s ]
+
+inner-words : (ss : List Signal) → list_all is_inner (map word_of ss) ≡ true
+inner-words [] = refl
+inner-words (s ∷ ss) = rw (inner-word s) (inner-words ss)
+
+inner-dash : list_all is_inner (codes "-" ∷ []) ≡ true
+unfolding is_same
+inner-dash = refl
+
+inner-set : (set : ℕ) → list_all is_inner (set_words set) ≡ true
+inner-set set = elim (set == 0) as (λ b. list_all is_inner (cond b (codes "-" ∷ []) (map word_of (filter (has set) all_signals))) ≡ true) [
+    | true ↦ inner-dash
+    | false ↦ inner-words (filter (has set) all_signals)
+  ]
+
+inner-asked : (a b : Bool) → list_all is_inner (asked_words a b) ≡ true
+unfolding is_same
+inner-asked false false = refl
+inner-asked true false = refl
+inner-asked false true = refl
+inner-asked true true = refl
+
+inner-act : (a : Act) → list_all is_inner (act_word a ∷ []) ≡ true
+unfolding is_same
+inner-act acts.Default = refl
+inner-act acts.Ignore = refl
+inner-act acts.Catch = refl
+
+inner-call : (c : Call) → CallFits c → HasNames c → list_all is_inner (call_words c) ≡ true
+unfolding is_same
+inner-call calls.Getpid fit names = refl
+inner-call calls.Getppid fit names = refl
+inner-call (calls.Getpgid t) fit names = rw (inner-number t fit) refl
+inner-call (calls.Getsid t) fit names = rw (inner-number t fit) refl
+inner-call calls.Fork fit names = refl
+inner-call calls.Exec fit names = refl
+inner-call (calls.Exit n) fit names = rw (inner-number n fit) refl
+inner-call (calls.Waitpid sel a b) fit names = rw (inner-signed sel names) (inner-asked a b)
+inner-call (calls.Kill target sig) fit names = rw (inner-signed target names, inner-signal sig fit) refl
+inner-call (calls.Setpgid pid pgid) fit names = rw (inner-number pid fit, inner-signed pgid names) refl
+inner-call calls.Setsid fit names = refl
+inner-call (calls.Action sig a) fit names = rw (inner-signal sig fit) (inner-act a)
+inner-call (calls.Mask set) fit names = inner-set set
+inner-call calls.Pending fit names = refl
+inner-call calls.Migrate fit names = refl
+
+both : (a b : Bool) → (a && b) ≡ true → (a ≡ true) × (b ≡ true)
+both true b h = (refl, h)
+both false b h = absurd (cc)
+
+front-kept : (xs ys : List Word) → list_all is_inner xs ≡ true → take_while is_inner (xs ++ ys) ≡ xs ++ take_while is_inner ys
+front-kept [] ys h = refl
+front-kept (x ∷ xs) ys h =
+    let parts = both (is_inner x) (list_all is_inner xs) h in
+    take_while-cons is_inner x (xs ++ ys) ∙ ap (λ b. cond b (x ∷ take_while is_inner (xs ++ ys)) []) parts.0
+    ∙ ap (λ (ws : List Word). x ∷ ws) (front-kept xs ys parts.1)
+
+equals-outer : (ws : List Word) → take_while is_inner (codes "=" ∷ ws) ≡ []
+unfolding is_same
+equals-outer ws = take_while-cons is_inner (codes "=") ws
+
+reply-front : (r : Reply) → take_while is_inner (reply_words r) ≡ []
+reply-front replies.Fine = equals-outer (codes "ok" ∷ [])
+reply-front (replies.Number n) = equals-outer (decimal n ∷ [])
+reply-front (replies.Set set) = equals-outer (set_words set)
+reply-front (replies.Child pid s) = equals-outer (decimal pid.0 ∷ status_words s)
+reply-front replies.Again = equals-outer (codes "again" ∷ [])
+reply-front (replies.Refused e) = equals-outer (errno_word e ∷ [])
+reply-front replies.NoReply = refl
+
+-- the equals sign stands behind the call
+call-front : (c : Call) (r : Reply) → CallFits c → HasNames c → words_before (call_words c ++ reply_words r) ≡ length (call_words c)
+unfolding words_before
+call-front c r fit names = ap length (front-kept (call_words c) (reply_words r) (inner-call c fit names) ∙ ap (λ (ws : List Word). call_words c ++ ws) (reply-front r) ∙ append-nil (call_words c))
+
+-- ---- calls
+verb_of : Call → Verb
+verb_of calls.Getpid = verb.Getpid
+verb_of calls.Getppid = verb.Getppid
+verb_of (calls.Getpgid t) = verb.Getpgid
+verb_of (calls.Getsid t) = verb.Getsid
+verb_of calls.Fork = verb.Fork
+verb_of calls.Exec = verb.Exec
+verb_of (calls.Exit n) = verb.Exit
+verb_of (calls.Waitpid sel a b) = verb.Waitpid
+verb_of (calls.Kill target sig) = verb.Kill
+verb_of (calls.Setpgid pid pgid) = verb.Setpgid
+verb_of calls.Setsid = verb.Setsid
+verb_of (calls.Action sig a) = verb.Action
+verb_of (calls.Mask set) = verb.Mask
+verb_of calls.Pending = verb.Pending
+verb_of calls.Migrate = verb.Migrate
+
+call-verb : (p : Word) (c : Call) (ws : List Word) → verb_named (word_at (p ∷ call_words c ++ ws) 1) ≡ Some (verb_of c)
+unfolding verb_named is_same word_at verb_of
+call-verb p calls.Getpid ws = refl
+call-verb p calls.Getppid ws = refl
+call-verb p (calls.Getpgid t) ws = refl
+call-verb p (calls.Getsid t) ws = refl
+call-verb p calls.Fork ws = refl
+call-verb p calls.Exec ws = refl
+call-verb p (calls.Exit n) ws = refl
+call-verb p (calls.Waitpid sel a b) ws = refl
+call-verb p (calls.Kill target sig) ws = refl
+call-verb p (calls.Setpgid pid pgid) ws = refl
+call-verb p calls.Setsid ws = refl
+call-verb p (calls.Action sig a) ws = refl
+call-verb p (calls.Mask set) ws = refl
+call-verb p calls.Pending ws = refl
+call-verb p calls.Migrate ws = refl
+
+act-read : (a : Act) → act_in (act_word a) ≡ a
+unfolding act_in is_same
+act-read acts.Default = refl
+act-read acts.Ignore = refl
+act-read acts.Catch = refl
+
+wait-read : (z : ℤ) (a b : Bool) → signed_in (signed_decimal z) ≡ z → call_of verb.Waitpid (codes "waitpid" ∷ signed_decimal z ∷ asked_words a b) ≡ calls.Waitpid z a b
+unfolding call_of is_same word_at
+wait-read z false false e = ap (λ (y : ℤ). calls.Waitpid y false false) e
+wait-read z true false e = ap (λ (y : ℤ). calls.Waitpid y true false) e
+wait-read z false true e = ap (λ (y : ℤ). calls.Waitpid y false true) e
+wait-read z true true e = ap (λ (y : ℤ). calls.Waitpid y true true) e
+
+call-read : (c : Call) → CallFits c → HasNames c → call_of (verb_of c) (call_words c) ≡ c
+unfolding call_of verb_of word_at
+call-read calls.Getpid fit names = refl
+call-read calls.Getppid fit names = refl
+call-read (calls.Getpgid t) fit names = ap (λ n. calls.Getpgid n) (number-read t fit)
+call-read (calls.Getsid t) fit names = ap (λ n. calls.Getsid n) (number-read t fit)
+call-read calls.Fork fit names = refl
+call-read calls.Exec fit names = refl
+call-read (calls.Exit n) fit names = ap (λ n. calls.Exit n) (number-read n fit)
+call-read (calls.Waitpid sel a b) fit names = wait-read sel a b (signed-read sel names)
+call-read (calls.Kill target sig) fit names = rw (signed-read target names, signal_number-read sig fit) refl
+call-read (calls.Setpgid pid pgid) fit names = rw (number-read pid fit, signed-read pgid names) refl
+call-read calls.Setsid fit names = refl
+call-read (calls.Action sig a) fit names = rw (signal_number-read sig fit, act-read a) refl
+call-read (calls.Mask set) fit names = ap (λ n. calls.Mask n) (set-read set fit)
+call-read calls.Pending fit names = refl
+call-read calls.Migrate fit names = refl
+
+-- ---- replies
+status-read : (p : Word) (s : WaitStatus) → StatusFits s → status_in (codes "=" ∷ p ∷ status_words s) ≡ s
+unfolding status_in is_same word_at
+status-read p (status.Exited n) fit = ap (λ m. status.Exited (m % 256)) (number-read n (omega arith)) ∙ ap (λ m. status.Exited m) (omega arith)
+status-read p (status.Killed s) fit = ap (λ (t : Signal). status.Killed t) (signal-read s)
+status-read p (status.Stopped s) fit = ap (λ (t : Signal). status.Stopped t) (signal-read s)
+status-read p status.Continued fit = refl
+
+errno-read : (e : Errno) → reply_in (codes "=" ∷ errno_word e ∷ []) ≡ replies.Refused e
+unfolding reply_in worded_reply_in errno_named is_same word_at is_number
+errno-read EPERM = refl
+errno-read ESRCH = refl
+errno-read EACCES = refl
+errno-read EINVAL = refl
+errno-read ECHILD = refl
+errno-read EAGAIN = refl
+
+fine-read : reply_in (codes "=" ∷ codes "ok" ∷ []) ≡ replies.Fine
+unfolding reply_in worded_reply_in is_same word_at is_number
+fine-read = refl
+
+again-read : reply_in (codes "=" ∷ codes "again" ∷ []) ≡ replies.Again
+unfolding reply_in worded_reply_in is_same word_at is_number
+again-read = refl
+
+number-reply : (n : ℕ) → n < 2 ^ 32 → reply_in (codes "=" ∷ decimal n ∷ []) ≡ replies.Number n
+unfolding reply_in word_at
+number-reply n h = ap (λ b. cond b (replies.Number (number_in (decimal n))) (worded_reply_in (codes "=" ∷ decimal n ∷ []))) (number-decimal n h)
+    ∙ ap (λ m. replies.Number m) (number-read n h)
+
+long-status : (s : WaitStatus) → nat_lt 2 (length (codes "=" ∷ codes "0" ∷ status_words s)) ≡ true
+long-status (status.Exited n) = refl
+long-status (status.Killed s) = refl
+long-status (status.Stopped s) = refl
+long-status status.Continued = refl
+
+child-reply : (n : ℕ) (s : WaitStatus) → n < 2 ^ 32 → StatusFits s → reply_in (codes "=" ∷ decimal n ∷ status_words s) ≡ replies.Child (record { 0 = n }) s
+unfolding reply_in word_at
+child-reply n s h fit =
+    let row : Row = codes "=" ∷ decimal n ∷ status_words s in
+    ap (λ b. cond b (cond (nat_lt 2 (length row)) (replies.Child (record { 0 = number_in (decimal n) }) (status_in row)) (replies.Number (number_in (decimal n)))) (worded_reply_in row)) (number-decimal n h)
+    ∙ ap (λ b. cond b (replies.Child (record { 0 = number_in (decimal n) }) (status_in row)) (replies.Number (number_in (decimal n)))) (long-status s)
+    ∙ ap (λ m. replies.Child (record { 0 = m }) (status_in row)) (number-read n h)
+    ∙ ap (λ (t : WaitStatus). replies.Child (record { 0 = n }) t) (status-read (decimal n) s fit)
+
+-- a set is no number and no other word of a reply
+set-first : (s : Signal) (ws : List Word) → reply_in (codes "=" ∷ word_of s ∷ ws) ≡ replies.Set (set_in (word_of s ∷ ws))
+unfolding reply_in worded_reply_in errno_named is_same word_at is_number
+set-first Hup ws = refl
+set-first Int ws = refl
+set-first Quit ws = refl
+set-first Abrt ws = refl
+set-first Kill ws = refl
+set-first Usr1 ws = refl
+set-first Usr2 ws = refl
+set-first Pipe ws = refl
+set-first Alrm ws = refl
+set-first Term ws = refl
+set-first Chld ws = refl
+set-first Cont ws = refl
+set-first Stop ws = refl
+set-first Tstp ws = refl
+set-first Ttin ws = refl
+set-first Ttou ws = refl
+set-first Urg ws = refl
+
+dash-first : reply_in (codes "=" ∷ codes "-" ∷ []) ≡ replies.Set (set_in (codes "-" ∷ []))
+unfolding reply_in worded_reply_in errno_named is_same word_at is_number
+dash-first = refl
+
+none-first : reply_in (codes "=" ∷ []) ≡ replies.Set (set_in [])
+unfolding reply_in worded_reply_in errno_named is_same word_at is_number
+none-first = refl
+
+words-first : (ss : List Signal) → reply_in (codes "=" ∷ map word_of ss) ≡ replies.Set (set_in (map word_of ss))
+words-first [] = none-first
+words-first (s ∷ ss) = set-first s (map word_of ss)
+
+set-words-first : (set : ℕ) → reply_in (codes "=" ∷ set_words set) ≡ replies.Set (set_in (set_words set))
+set-words-first set = elim (set == 0) as (λ b. let ws : List Word = cond b (codes "-" ∷ []) (map word_of (filter (has set) all_signals)) in reply_in (codes "=" ∷ ws) ≡ replies.Set (set_in ws)) [
+    | true ↦ dash-first
+    | false ↦ words-first (filter (has set) all_signals)
+  ]
+
+no-reply : reply_in [] ≡ replies.NoReply
+unfolding reply_in
+no-reply = refl
+
+reply-read : (r : Reply) → ReplyFits r → reply_in (reply_words r) ≡ r
+reply-read replies.Fine fit = fine-read
+reply-read (replies.Number n) fit = number-reply n fit
+reply-read (replies.Set set) fit = set-words-first set ∙ ap (λ n. replies.Set n) (set-read set fit)
+reply-read (replies.Child pid s) fit = child-reply pid.0 s fit.0 fit.1
+reply-read replies.Again fit = again-read
+reply-read (replies.Refused e) fit = errno-read e
+reply-read replies.NoReply fit = no-reply
+
+-- ---- events
+event-read : (e : Event) → event_in (event_words e) ≡ e
+unfolding event_in is_same word_at
+event-read (events.Caught s) = ap (λ (t : Signal). events.Caught t) (signal-read s)
+event-read (events.Discarded s) = ap (λ (t : Signal). events.Discarded t) (signal-read s)
+event-read (events.StoppedBy s) = ap (λ (t : Signal). events.StoppedBy t) (signal-read s)
+event-read (events.EndedBy s) = ap (λ (t : Signal). events.EndedBy t) (signal-read s)
+event-read events.Continued = refl
+event-read events.Moved = refl
+
+event-verb : (p : Word) (e : Event) → verb_named (word_at (p ∷ event_words e) 1) ≡ None
+unfolding verb_named is_same word_at
+event-verb p (events.Caught s) = refl
+event-verb p (events.Discarded s) = refl
+event-verb p (events.StoppedBy s) = refl
+event-verb p (events.EndedBy s) = refl
+event-verb p events.Continued = refl
+event-verb p events.Moved = refl
+
+first-word : (p : Word) (ws : List Word) → word_at (p ∷ ws) 0 ≡ p
+unfolding word_at
+first-word p ws = refl
+
+-- an entry is said by what is written of it
+pub entry-read : (e : Entry) → Fits e → EntryHasNames e → entry_in (entry_words e) ≡ e
+unfolding entry_in
+entry-read (Called caller c r) fit names =
+    let rest : List Word = call_words c ++ reply_words r in
+    ap (λ o. said o (number_in (word_at (decimal caller.0 ∷ rest) 0)) rest) (call-verb (decimal caller.0) c (reply_words r))
+    ∙ ap (λ w. said (Some (verb_of c)) (number_in w) rest) (first-word (decimal caller.0) rest)
+    ∙ ap (λ n. said (Some (verb_of c)) n rest) (number-read caller.0 fit.0)
+    ∙ ap (λ n. Called caller (call_of (verb_of c) (take n rest)) (reply_in (drop n rest))) (call-front c r fit.1 names)
+    ∙ ap (λ (ws : List Word). Called caller (call_of (verb_of c) ws) (reply_in (drop (length (call_words c)) rest))) (take-append_seam (call_words c) (reply_words r))
+    ∙ ap (λ (ws : List Word). Called caller (call_of (verb_of c) (call_words c)) (reply_in ws)) (drop-append_seam (call_words c) (reply_words r))
+    ∙ ap (λ (d : Call). Called caller d (reply_in (reply_words r))) (call-read c fit.1 names)
+    ∙ ap (λ (s : Reply). Called caller c s) (reply-read r fit.2)
+entry-read (Happened pid e) fit names =
+    ap (λ o. said o (number_in (word_at (decimal pid.0 ∷ event_words e) 0)) (event_words e)) (event-verb (decimal pid.0) e)
+    ∙ ap (λ w. said None (number_in w) (event_words e)) (first-word (decimal pid.0) (event_words e))
+    ∙ ap (λ n. said None n (event_words e)) (number-read pid.0 fit)
+    ∙ ap (λ (d : Event). Happened pid d) (event-read e)

@@ -1,0 +1,198 @@
+-- what is written of an entry seems to say it
+use Rattle.std.proofs.Common.{◌⊎◌, inl, inr, ◌≡◌, ℕ, suc, ◌+◌, ◌^◌, ◌%◌, ◌<◌, ◌≤◌, nat_lt, nat_le, ℤ, pos, negsuc, Bool, true, false, cond, not, ◌==◌, ◌&&◌, ◌||◌, if◌then◌else◌, List, [], ◌∷◌, ◌++◌, length, take, drop, map, filter, fold, Option, Some, None, refl, ap, sym, ◌∙◌, arith, append-nil, codes}
+use Rattle.std.specs.Prelude.{IsNone, take_while}
+use Rattle.std.specs.List.{list_all}
+use Rattle.std.specs.Fmt.{decimal, signed_decimal}
+use Rattle.std.specs.Str.{bytes_eq}
+use Rattle.std.specs.Str.Parse.{AllDigits, digits_value}
+use Rattle.std.specs.Cmp.Lexicographic.{same_text}
+use Rattle.std.proofs.lemmas.Bool.{cases_Bool, ne_eqb, eq-eqb}
+use Rattle.std.proofs.lemmas.Bool.Decides.{nat_tests}
+use Rattle.std.proofs.lemmas.Fmt.{decimal_is_IsNumeral}
+use Rattle.std.proofs.lemmas.Str.Parse.{digit_from_value}
+use Rattle.std.proofs.lemmas.List.Sums.{take_while-cons}
+use Rattle.std.proofs.Math.Seq.{take-append_seam}
+use borrow.Author.Tests.{eqb-true}
+use Rattle.byte_ends.specs.Text.{IsNumber}
+use Rattle.script_reader.specs.Words.{Word, Row, is_same, word_at, is_number}
+use Rattle.script_reader.proofs.Numbers.{is_number-decides}
+use Rattle.text_laws.proofs.Numbers.{IsNumber-decimal, digits_value-decimal}
+use Rattle.unix_names.specs.declared.Signal.{Signal}
+use Rattle.unix_names.specs.declared.Signal.TheVariants.{Hup, Int, Quit, Abrt, Kill, Usr1, Usr2, Pipe, Alrm, Term, Chld, Cont, Stop, Tstp, Ttin, Ttou, Urg}
+use Rattle.unix_names.specs.declared.Act.{Act}
+use Rattle.unix_names.specs.declared.Act.TheVariants as acts
+use Rattle.unix_names.specs.declared.Errno.{Errno}
+use Rattle.unix_names.specs.declared.Errno.TheVariants.{EPERM, ESRCH, EACCES, EINVAL, ECHILD, EAGAIN}
+use Rattle.unix_names.specs.declared.WaitStatus.{WaitStatus}
+use Rattle.unix_names.specs.declared.WaitStatus.TheVariants as status
+use Rattle.unix_names.specs.Signals.{number_of, word_of, signal_of, signal_named, all_signals}
+use Rattle.unix_names.specs.Sets.{has, added, IsSignals}
+use Rattle.unix_names.proofs.SignalLaws.{signal_named-word_of, signal_named-none, number_of-signal_of, number_of-distinct}
+use Rattle.unix_names.proofs.SetLaws.{has-added, has-none, IsSignals-none, IsSignals-added, same-signals}
+use Rattle.unix_calls.specs.Calls.{IsName, HasNames, EntryHasNames}
+use Rattle.unix_calls.specs.declared.Call.{Call}
+use Rattle.unix_calls.specs.declared.Call.TheVariants as calls
+use Rattle.unix_calls.specs.declared.Reply.{Reply}
+use Rattle.unix_calls.specs.declared.Reply.TheVariants as replies
+use Rattle.unix_calls.specs.declared.Event.{Event}
+use Rattle.unix_calls.specs.declared.Event.TheVariants as events
+use Rattle.unix_calls.specs.declared.Entry.{Entry}
+use Rattle.unix_calls.specs.declared.Entry.TheVariants.{Called, Happened}
+use Rattle.run_text.specs.History.{named, signal_word, set_words, act_word, errno_word, asked_words, call_words, status_words, reply_words, event_words}
+use Rattle.history_reader.specs.declared.verbs.Verb.{Verb}
+use Rattle.history_reader.specs.declared.verbs.Verb.TheVariants as verb
+use Rattle.history_reader.specs.Loose.{number_in, signed_in, number_or, signal_number_in, signal_in, with_named, set_in, act_in, errno_named, status_in, refused_or, worded_reply_in, reply_in, call_of, verb_named, words_before, event_in, said, entry_in}
+use Rattle.history_reader.specs.Reading.{entry_words, CallFits, StatusFits, ReplyFits, Fits}
+
+-- ---- numbers
+pub number-decimal : (n : ℕ) → n < 2 ^ 32 → is_number (decimal n) ≡ true
+number-decimal n h = (is_number-decides (decimal n)).1 (IsNumber-decimal n h)
+
+pub number-read : (n : ℕ) → n < 2 ^ 32 → number_in (decimal n) ≡ n
+unfolding number_in
+number-read n h = ap (λ b. cond b (digits_value 10 (decimal n)) 0) (number-decimal n h) ∙ digits_value-decimal n h
+
+-- a number is no other word
+pub number-other : (word text : List ℕ) → is_number word ≡ true → is_number text ≡ false → is_same word text ≡ false
+unfolding is_same
+number-other word text yes other =
+    elim (cases_Bool (bytes_eq word text)) [
+      | inl same ↦ let e : word ≡ text = same_text word text (sym same) in let clash : true ≡ false = sym yes ∙ ap is_number e ∙ other in absurd (cc)
+      | inr ne ↦ ne
+    ]
+
+digits-signed : (ds : List ℕ) → AllDigits 10 ds → 0 < length ds → signed_in ds ≡ pos (number_in ds)
+unfolding signed_in
+digits-signed [] all some = absurd (omega arith)
+digits-signed (c ∷ cs) all some =
+    let digit = digit_from_value c all.0 in
+    ap (λ b. cond b _ (pos (number_in (c ∷ cs)))) (ne_eqb c 45 (λ e. absurd (omega arith)))
+
+pub small-pos : (n : ℕ) → IsName (pos n) → n < 2 ^ 32
+small-pos n h = let b = h.1 in omega arith
+
+pub small-negsuc : (n : ℕ) → IsName (negsuc n) → suc n < 2 ^ 32
+small-negsuc n h = let b = h.0 in omega arith
+
+pub signed-read : (z : ℤ) → IsName z → signed_in (signed_decimal z) ≡ z
+unfolding signed_in
+signed-read (pos n) h =
+    let small = small-pos n h in
+    let k = decimal_is_IsNumeral n (omega arith) in
+    digits-signed (decimal n) k.0.1 k.0.0 ∙ ap pos (number-read n small)
+signed-read (negsuc n) h = rw (number-read (suc n) (small-negsuc n h)) refl
+
+-- ---- signals
+pub word-not_number : (s : Signal) → is_number (word_of s) ≡ false
+unfolding is_number
+word-not_number Hup = refl
+word-not_number Int = refl
+word-not_number Quit = refl
+word-not_number Abrt = refl
+word-not_number Kill = refl
+word-not_number Usr1 = refl
+word-not_number Usr2 = refl
+word-not_number Pipe = refl
+word-not_number Alrm = refl
+word-not_number Term = refl
+word-not_number Chld = refl
+word-not_number Cont = refl
+word-not_number Stop = refl
+word-not_number Tstp = refl
+word-not_number Ttin = refl
+word-not_number Ttou = refl
+word-not_number Urg = refl
+
+number-unnamed : (n : ℕ) → n < 2 ^ 32 → signal_named (decimal n) ≡ None
+number-unnamed n h = (signal_named-none (decimal n)).1 (λ s e.
+    let clash : true ≡ false = sym (number-decimal n h) ∙ ap is_number (sym e) ∙ word-not_number s in absurd (cc))
+
+pub signal_number-read : (n : ℕ) → n < 2 ^ 32 → signal_number_in (signal_word n) ≡ n
+unfolding signal_number_in
+signal_number-read n h =
+    elim (signal_of n) as (λ o. signal_of n ≡ o → number_or (signal_named (named n o)) (number_in (named n o)) ≡ n) [
+      | None ↦ λ w. ap (λ o. number_or o (number_in (decimal n))) (number-unnamed n h) ∙ number-read n h
+      | Some s ↦ λ w. ap (λ o. number_or o (number_in (word_of s))) (signal_named-word_of s) ∙ number_of-signal_of n s w
+    ] refl
+
+pub signal-read : (s : Signal) → signal_in (word_of s) ≡ s
+unfolding signal_in
+signal-read s = rw (signal_named-word_of s) refl
+
+-- ---- sets
+-- whether a signal is among some
+among : Signal → List Signal → Bool
+among t [] = false
+among t (s ∷ ss) = (number_of t == number_of s) || among t ss
+
+or_assoc : (a b c : Bool) → ((a || b) || c) ≡ (a || (b || c))
+or_assoc true b c = refl
+or_assoc false b c = refl
+
+has-all : (set : ℕ) (ss : List Signal) (t : Signal) → has (fold added set ss) t ≡ (has set t || among t ss)
+unfolding among
+has-all set [] t = elim (has set t) as (λ b. b ≡ (b || false)) [ true ↦ refl | false ↦ refl ]
+has-all set (s ∷ ss) t = has-all (added set s) ss t ∙ ap (λ b. b || among t ss) (has-added set s t) ∙ or_assoc (has set t) (number_of t == number_of s) (among t ss)
+
+among-kept : (p : Signal → Bool) (ss : List Signal) (t : Signal) → among t (filter p ss) ≡ (among t ss && p t)
+unfolding among
+among-kept p [] t = refl
+among-kept p (s ∷ ss) t =
+    let rest = among-kept p ss t in
+    elim (cases_Bool (number_of t == number_of s)) [
+      | inl yes ↦
+          let same : t ≡ s = number_of-distinct t s (eqb-true (number_of t) (number_of s) yes) in
+          let passes : p t ≡ p s = ap p same in
+          elim (cases_Bool (p s)) [ inl w ↦ grind (arith, nat_tests) | inr w ↦ grind (arith, nat_tests) ]
+      | inr other ↦ elim (cases_Bool (p s)) [ inl w ↦ grind (arith, nat_tests) | inr w ↦ grind (arith, nat_tests) ]
+    ]
+
+among-every : (t : Signal) → among t all_signals ≡ true
+unfolding among
+among-every Hup = refl
+among-every Int = refl
+among-every Quit = refl
+among-every Abrt = refl
+among-every Kill = refl
+among-every Usr1 = refl
+among-every Usr2 = refl
+among-every Pipe = refl
+among-every Alrm = refl
+among-every Term = refl
+among-every Chld = refl
+among-every Cont = refl
+among-every Stop = refl
+among-every Tstp = refl
+among-every Ttin = refl
+among-every Ttou = refl
+among-every Urg = refl
+
+signals-all : (set : ℕ) (ss : List Signal) → IsSignals set → IsSignals (fold added set ss)
+unfolding added
+signals-all set [] h = h
+signals-all set (s ∷ ss) h = signals-all (added set s) ss (IsSignals-added set s h)
+
+named-all : (set : ℕ) (ss : List Signal) → fold (λ set word. with_named set (signal_named word)) set (map word_of ss) ≡ fold added set ss
+named-all set [] = refl
+named-all set (s ∷ ss) =
+    ap (λ o. fold (λ set word. with_named set (signal_named word)) (with_named set o) (map word_of ss)) (signal_named-word_of s) ∙ named-all (added set s) ss
+
+members-all : (set : ℕ) → IsSignals set → fold added 0 (filter (has set) all_signals) ≡ set
+members-all set h =
+    same-signals (fold added 0 (filter (has set) all_signals)) set (signals-all 0 (filter (has set) all_signals) IsSignals-none) h (λ t.
+    has-all 0 (filter (has set) all_signals) t
+    ∙ ap (λ b. b || among t (filter (has set) all_signals)) (has-none t)
+    ∙ among-kept (has set) all_signals t
+    ∙ ap (λ b. b && has set t) (among-every t))
+
+dash-unnamed : set_in (codes "-" ∷ []) ≡ 0
+unfolding set_in signal_named
+dash-unnamed = refl
+
+pub set-read : (set : ℕ) → IsSignals set → set_in (set_words set) ≡ set
+unfolding set_in
+set-read set h =
+    elim (set == 0) as (λ b. (set == 0) ≡ b → fold (λ set word. with_named set (signal_named word)) 0 (cond b (codes "-" ∷ []) (map word_of (filter (has set) all_signals))) ≡ set) [
+      | true ↦ λ w. dash-unnamed ∙ sym (eqb-true set 0 w)
+      | false ↦ λ w. named-all 0 (filter (has set) all_signals) ∙ members-all set h
+    ] refl

@@ -1,0 +1,95 @@
+-- Which lines are a history of which entries.
+use Rattle.std.specs.Prelude.{IsTrue, MatchBool, ◌≡◌, ℕ, ◌+◌, ◌^◌, ◌<◌, Bool, true, false, ◌||◌, if◌then◌else◌, List, [], ◌∷◌, ◌++◌, length, take, codes}
+use Rattle.std.specs.Fmt.{decimal}
+use Rattle.unix_names.specs.Sets.{IsSignals}
+use Rattle.unix_names.specs.declared.WaitStatus.{WaitStatus}
+use Rattle.unix_names.specs.declared.WaitStatus.TheVariants as status
+use Rattle.unix_calls.specs.declared.Call.{Call}
+use Rattle.unix_calls.specs.declared.Call.TheVariants as calls
+use Rattle.unix_calls.specs.declared.Reply.{Reply}
+use Rattle.unix_calls.specs.declared.Reply.TheVariants as replies
+use Rattle.unix_calls.specs.declared.Entry.{Entry}
+use Rattle.unix_calls.specs.declared.Entry.TheVariants.{Called, Happened}
+use Rattle.byte_ends.specs.Text.{words}
+use Rattle.file_parts.specs.Parts.{Lines, is_only}
+use Rattle.script_reader.specs.Lines.{is_skipped}
+use Rattle.run_text.specs.History.{Words, call_words, reply_words, event_words, IsEntry}
+
+-- the words that are written of an entry
+abbrev pub entry_words : Entry → Words
+entry_words (Called caller call reply) = decimal caller.0 ∷ call_words call ++ reply_words reply
+entry_words (Happened pid event) = decimal pid.0 ∷ event_words event
+
+-- a line means an entry where its words are those that are written of it
+pub record Means (line : List ℕ) (entry : Entry) : Type 0 where
+  pub is_entry : IsEntry entry
+  pub spelled : words line ≡ entry_words entry
+
+-- the numbers of a call fit 32 bits, and its set is one of signals
+abbrev pub CallFits : Call → Type 0
+CallFits (calls.Getpgid t) = t < 2 ^ 32
+CallFits (calls.Getsid t) = t < 2 ^ 32
+CallFits (calls.Exit n) = n < 2 ^ 32
+CallFits (calls.Kill target sig) = sig < 2 ^ 32
+CallFits (calls.Setpgid pid pgid) = pid < 2 ^ 32
+CallFits (calls.Action sig act) = sig < 2 ^ 32
+CallFits (calls.Mask set) = IsSignals set
+CallFits _ = Unit {0}
+
+abbrev pub StatusFits : WaitStatus → Type 0
+StatusFits (status.Exited n) = n < 2 ^ 8
+StatusFits _ = Unit {0}
+
+abbrev pub ReplyFits : Reply → Type 0
+ReplyFits (replies.Number n) = n < 2 ^ 32
+ReplyFits (replies.Set set) = IsSignals set
+ReplyFits (replies.Child pid s) = (pid.0 < 2 ^ 32) × StatusFits s
+ReplyFits _ = Unit {0}
+
+-- the numbers of an entry fit their types, as they do in each entry of a program
+abbrev pub Fits : Entry → Type 0
+Fits (Called caller call reply) = (caller.0 < 2 ^ 32) × CallFits call × ReplyFits reply
+Fits (Happened pid event) = pid.0 < 2 ^ 32
+
+abbrev pub AllFit : List Entry → Type 0
+AllFit [] = Unit {0}
+AllFit (e ∷ es) = Fits e × AllFit es
+
+-- whether a line says nothing
+abbrev pub is_nothing : List ℕ → Bool
+is_nothing line = is_skipped (words line)
+
+-- whether a line is the last one, which says whether nothing was left to do
+abbrev pub is_last : List ℕ → Bool
+is_last line = is_only (codes "quiet") line || is_only (codes "open") line
+
+-- whether what stands from a line on isn't read
+abbrev pub is_schedule : List ℕ → Bool
+is_schedule line = is_only (codes "schedule") line
+
+-- behind the last line: nothing, up to the end or to a schedule
+abbrev pub Ends : Lines → Type 0
+Ends [] = Unit {0}
+Ends (l ∷ ls) = MatchBool (is_nothing l) (Ends ls) (IsTrue (is_schedule l))
+
+-- the first of these entries on a line, and the others on the lines behind it
+abbrev pub OnLine : List ℕ → (List Entry → Type 0) → List Entry → Type 0
+OnLine l Rest [] = ⊥
+OnLine l Rest (e ∷ es) = Means l e × Rest es
+
+-- lines are a history of these entries: some say nothing, the others mean the entries in order; then comes the last line or none, and then nothing, or a schedule
+abbrev pub IsHistory : Lines → List Entry → Type 0
+IsHistory [] es = es ≡ []
+IsHistory (l ∷ ls) es =
+    MatchBool (is_nothing l) (IsHistory ls es)
+    (MatchBool (is_schedule l) (es ≡ [])
+    (MatchBool (is_last l) ((es ≡ []) × Ends ls)
+    (OnLine l (IsHistory ls) es)))
+
+-- the first bad line, where the first line has this number: the lines before it are a history of some entries, and with it they are one of none
+pub record IsFirstBad (ls : Lines) (number bad : ℕ) : Type 0 where
+  pub before : ℕ
+  pub place : bad ≡ number + before
+  pub within : before < length ls
+  pub good : (es : List Entry) × IsHistory (take before ls) es
+  pub wrong : (es : List Entry) → AllFit es → IsHistory (take (before + 1) ls) es → ⊥
