@@ -6,6 +6,7 @@ ghost use Rattle.script_reader.specs.declared.faults.ReadRefusal.TheVariants.{No
 use std::alloc::{AllocError, AllocFailed};
 use std::fmt;
 use thiserror::Error;
+use unix_names::NoMemory;
 
 /// What is wrong with a line of a file.
 #[derive(Clone, Copy, Debug, PartialEq, Eq)]
@@ -110,6 +111,14 @@ impl From<AllocError> for ReadRefusal {
     ghost from_gives = { λ _ e. e ≡ OutOfMemory };
 
     fn from(_e: AllocError) -> ReadRefusal {
+        ReadRefusal::NoMemory
+    }
+}
+
+impl From<NoMemory> for ReadRefusal {
+    ghost from_gives = { λ _ e. e ≡ OutOfMemory };
+
+    fn from(_e: NoMemory) -> ReadRefusal {
         ReadRefusal::NoMemory
     }
 }

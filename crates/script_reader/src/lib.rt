@@ -1,13 +1,18 @@
 //! Files that describe processes: the parts of a file, and the world that its first part means or the least fault of it.
 #![tactic(auto)]
 
+mod bodies;
 mod faults;
+mod files;
 mod form;
+mod gather;
 mod lines;
 mod names;
 mod places;
+mod starts;
 mod statements;
 mod words;
 
 pub use faults::{Fault, Kind, ReadRefusal};
+pub use files::read_file;
 pub use form::{FormRefusal, read_form};

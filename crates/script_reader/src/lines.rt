@@ -288,7 +288,8 @@ fn read_row<'a>(names: &Names<'a>, place: &Place, words: &[&'a [u8]]) -> Result<
     }
 }
 
-fn is_utf8(line: &[u8]) -> bool
+/// Whether a line is a text.
+pub fn is_utf8(line: &[u8]) -> bool
     ensures { result ≡ is_text line.now }
 {
     std::str::from_utf8(line).is_ok()

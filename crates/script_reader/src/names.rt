@@ -1,5 +1,5 @@
 // The numbers of names, in the order of the file.
-ghost use Rattle.std.specs.Prelude.{◌≡◌, [], OnOk};
+ghost use Rattle.std.specs.Prelude.{◌≡◌, [], length, OnOk};
 ghost use Rattle.script_reader.specs.Names.{number_in, noted};
 
 use indexmap::IndexMap;
@@ -30,6 +30,13 @@ impl<'a> Numbers<'a> {
         Numbers {
             first: IndexMap::new(alloc),
         }
+    }
+
+    /// How many words there are.
+    pub fn len(&self) -> usize
+        ensures { result ≡ length self.now }
+    {
+        self.first.len()
     }
 
     /// The number of a word, where it has one.

@@ -16,3 +16,13 @@ pub struct Place {
     /// How many of them are starts.
     pub starts: usize,
 }
+
+/// Where a file's first line stands.
+pub const FIRST_PLACE: Place = Place {
+    begun: false,
+    nodes: 0,
+    is_open: false,
+    scripts: 0,
+    statements: 0,
+    starts: 0,
+};

@@ -1,0 +1,7 @@
+//! Worlds written as files.
+#![tactic(auto)]
+
+mod files;
+mod statements;
+
+pub use files::write_file;
