@@ -1,0 +1,125 @@
+-- lines of the grammar mean what they spell
+use Rattle.std.proofs.Common.{◌≡◌, ◌==◌, ◌++◌, ℕ, zero, suc, ◌+◌, ◌-◌, ◌<◌, ◌≤◌, Bool, true, false, cond, List, [], ◌∷◌, length, length-append, take, refl, sym, ap, ◌∙◌, subst, arith, Option, Some, None, Result, Ok, Err, All, append_assoc}
+use Rattle.std.specs.Prelude.{codes, slice_get, map, fold, is_some, nat_le}
+use Rattle.std.specs.Str.{is_utf8}
+use Rattle.std.proofs.lemmas.Bool.{le-leb}
+use Rattle.std.proofs.lemmas.List.{append-nil, take-append-le, take_all}
+use Rattle.std.proofs.lemmas.List.Elements.{All-nil, All-head, All-tail}
+use Rattle.byte_ends.specs.Text.{words}
+use Rattle.unix_calls.specs.declared.World.{World}
+use Rattle.unix_calls.specs.declared.Script.{Script}
+use Rattle.unix_calls.specs.declared.Start.{Start}
+use Rattle.unix_calls.specs.declared.Work.{Work}
+use Rattle.unix_calls.specs.declared.Statement.{Statement}
+use Rattle.unix_calls.specs.Valid.{IsStatement, IsStart, IsLittleWork, IsValid}
+use Rattle.unix_calls.specs.Work.{work, together, work_of, works, total_work}
+use Rattle.script_reader.specs.declared.faults.Kind.{Kind}
+use Rattle.script_reader.specs.declared.faults.Kind.TheVariants.{NotUtf8}
+use Rattle.script_reader.specs.declared.faults.Fault.{Fault}
+use Rattle.script_reader.specs.declared.names.Names.{Names}
+use Rattle.script_reader.specs.declared.places.Place.{Place}
+use Rattle.script_reader.specs.declared.lines.Head.TheVariants as head
+use Rattle.script_reader.specs.declared.lines.Item.{Item}
+use Rattle.script_reader.specs.declared.lines.Item.TheVariants as item
+use Rattle.script_reader.specs.declared.lines.StartLine.{StartLine}
+use Rattle.script_reader.specs.Words.{Word, Row, word_at}
+use Rattle.script_reader.specs.Names.{number_in}
+use Rattle.script_reader.specs.Lines.{is_skipped, is_numbered, script_line, end_line, statement_line, start_line, later_line, read_row, read_line, place_after, placed_after}
+use Rattle.script_reader.specs.Statements.{ended, text_of}
+use Rattle.script_reader.specs.Files.{begins_with, Told, tells, place_behind, said, with_said, body, scripts_of, start_of, with_start, is_little, judged}
+use Rattle.list_laws.proofs.Finding.{same_number}
+use Rattle.script_laws.specs.Grammar.{Naming, IsCalled, Spells, SpellsStart, Lines, ends, skips, starts, begins, says, closes}
+use Rattle.script_laws.proofs.Words.{skipped_script, begins_so, verb_script, script_word}
+use Rattle.script_laws.proofs.Walks.{starts_now, IsLittle}
+use Rattle.script_laws.proofs.Scripts.{is_beginning, body_is, scripts_are}
+use Rattle.script_laws.proofs.Reading.{not_equal, name_read}
+use Rattle.script_laws.proofs.Spoken.{verb_of, HasNaming, HasStarts, statement_read, first_word, start_read, line_of}
+use Rattle.script_laws.proofs.Heads.{IsHead, verb_head, script_head, start_head, end_head, row_read, row_place, verb_some}
+
+-- ---- rows in the place of lines
+abbrev pub row_tells : Names → Place → List Row → List Told
+row_tells names place [] = []
+row_tells names place (row ∷ rows) = (row, read_row names place row) ∷ row_tells names (place_after place row (read_row names place row)) rows
+
+pub tells_rows : (names : Names) (place : Place) (lines : List (List ℕ)) → All (λ line. is_utf8 line ≡ true) lines → tells names place lines ≡ row_tells names place (map words lines)
+unfolding tells read_line
+tells_rows names place [] t = refl
+tells_rows names place (line ∷ lines) t =
+    rw (All-head (λ line. is_utf8 line ≡ true) line lines t)
+    (ap (λ (ts : List Told). (words line, read_row names place (words line)) ∷ ts) (tells_rows names (place_after place (words line) (read_row names place (words line))) lines (All-tail (λ line. is_utf8 line ≡ true) line lines t)))
+
+pub row_told : (names : Names) (place : Place) (row : Row) (rows : List Row) (i : Item) (now : Place) → read_row names place row ≡ Ok i → place_after place row (Ok i) ≡ now → row_tells names place (row ∷ rows) ≡ (row, Ok i) ∷ row_tells names now rows
+row_told names place row rows i now e p = rw (e, p) refl
+
+-- ---- what lines mean
+-- the statements of the open script, the scripts behind it, and all starts
+pub record Means (ws : List Work) (place : Place) (told : List Told) (ss : List Statement) (scs : List Script) (earlier all : List Start) : Type 0 where
+  pub body : body told ≡ ss
+  pub scripts : scripts_of told ≡ scs
+  pub closed : (place_behind place told).is_open ≡ false
+  pub begun : (place_behind place told).begun ≡ true
+  pub nodes : (place_behind place told).nodes ≡ place.nodes
+  pub count : (place_behind place told).starts ≡ length all
+  pub judged : (line : ℕ) → judged ws earlier line told ≡ Ok all
+
+pub judged_with : (ws : List Work) (earlier : List Start) (line : ℕ) (row : Row) (i : Item) (rest : List Told) (all : List Start) → IsLittle ws earlier i → judged ws (starts_now earlier i) (line + 1) rest ≡ Ok all → judged ws earlier line ((row, Ok i) ∷ rest) ≡ Ok all
+unfolding judged
+judged_with ws earlier line row (item.Starts s) rest all l e = rw l e
+judged_with ws earlier line row item.Nothing rest all l e = e
+judged_with ws earlier line row (item.Nodes n) rest all l e = e
+judged_with ws earlier line row item.ScriptBegins rest all l e = e
+judged_with ws earlier line row item.ScriptEnds rest all l e = e
+judged_with ws earlier line row (item.Says s) rest all l e = e
+
+-- a line more
+pub more : (ws : List Work) (place : Place) (row : Row) (i : Item) (now : Place) (told : List Told) (ss : List Statement) (scripts : List Script) (earlier all : List Start)
+    → place_after place row (Ok i) ≡ now → now.nodes ≡ place.nodes → begins_with (codes "script") row ≡ is_beginning i → IsLittle ws earlier i → Means ws now told ss scripts (starts_now earlier i) all
+    → Means ws place ((row, Ok i) ∷ told) (cond (is_beginning i) [] (with_said (said (Ok i)) ss)) (cond (is_beginning i) (record { statements = ss } ∷ scripts) scripts) earlier all
+unfolding place_behind
+more ws place row i now told ss scripts earlier all p n b l m = record {
+  body = body_is (row, Ok i) told i refl b ∙ ap (λ (x : List Statement). cond (is_beginning i) [] (with_said (said (Ok i)) x)) m.body;
+  scripts = scripts_are (row, Ok i) told (is_beginning i) b ∙ rw (m.body, m.scripts) refl;
+  closed = ap (λ q. (place_behind q told).is_open) p ∙ m.closed;
+  begun = ap (λ q. (place_behind q told).begun) p ∙ m.begun;
+  nodes = ap (λ q. (place_behind q told).nodes) p ∙ m.nodes ∙ n;
+  count = ap (λ q. (place_behind q told).starts) p ∙ m.count;
+  judged = λ line. judged_with ws earlier line row i told all l (m.judged (line + 1));
+}
+
+-- ---- work
+fold_together : (ws : List Work) (w : Work) (xs ys : List Start) → fold (λ total start. together total (work_of ws start.script)) w (xs ++ ys) ≡ fold (λ total start. together total (work_of ws start.script)) (fold (λ total start. together total (work_of ws start.script)) w xs) ys
+fold_together ws w [] ys = refl
+fold_together ws w (x ∷ xs) ys = fold_together ws (together w (work_of ws x.script)) xs ys
+
+less_before : (a b : Work) → IsLittleWork (together a b) → IsLittleWork a
+less_before a b l = (omega (arith, l.0), omega (arith, l.1))
+
+less_at_first : (ws : List Work) (w : Work) (ys : List Start) → IsLittleWork (fold (λ total start. together total (work_of ws start.script)) w ys) → IsLittleWork w
+less_at_first ws w [] l = l
+less_at_first ws w (y ∷ ys) l = less_before w (work_of ws y.script) (less_at_first ws (together w (work_of ws y.script)) ys l)
+
+pub little_first : (ws : List Work) (xs ys : List Start) → IsLittleWork (total_work ws (xs ++ ys)) → is_little (total_work ws xs) ≡ true
+little_first ws xs ys l =
+    let m = less_at_first ws (total_work ws xs) ys (subst IsLittleWork (fold_together ws (work 0 0) xs ys) l) in
+    rw (le-leb (total_work ws xs).processes 1024 m.0, le-leb (total_work ws xs).statements 4096 m.1) refl
+
+-- ---- where lines stand
+-- the statements of the open script
+abbrev pub statements_of : Option (List Statement) → List Statement
+statements_of None = []
+statements_of (Some ss) = ss
+
+-- what a script may still say where it is open
+abbrev pub Fits : World → Place → Option (List Statement) → Type 0
+Fits world place None = Unit {0}
+Fits world place (Some ss) = All (IsStatement world (place.scripts - 1)) ss × (place.statements + length ss ≤ 256)
+
+pub record Stands (naming : Naming) (world : World) (place : Place) (open' : Option (List Statement)) (words : List Word) (scs : List Script) (later earlier : List Start) : Type 0 where
+  pub begun : place.begun ≡ true
+  pub nodes : place.nodes ≡ world.nodes
+  pub is_open : place.is_open ≡ is_some open'
+  pub fits : Fits world place open'
+  pub each : (j : ℕ) (script : Script) → slice_get scs j ≡ Some script → slice_get world.scripts (place.scripts + j) ≡ Some script
+  pub names : (j : ℕ) (word : Word) → slice_get words j ≡ Some word → IsCalled naming.scripts word (place.scripts + j)
+  pub count : length earlier ≡ place.starts
+  pub all : earlier ++ later ≡ world.starts
