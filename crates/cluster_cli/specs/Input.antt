@@ -1,27 +1,23 @@
 -- What an input means to the commands that read one.
-use Rattle.std.specs.Prelude.{◌≡◌, ℕ, ◌+◌, nat_lt, if◌then◌else◌, List, [], ◌∷◌, ◌++◌, length, codes, Option, Some, None, Result, Ok, Err}
+use Rattle.std.specs.Prelude.{◌≡◌, ℕ, ◌+◌, Bool, true, false, ◌&&◌, nat_lt, nat_le, if◌then◌else◌, List, [], ◌∷◌, ◌++◌, length, codes, Option, Some, None, Result, Ok, Err}
 use Rattle.std.specs.Fmt.{decimal}
+use Rattle.std.specs.Str.Parse.{digits_value}
 use Rattle.byte_ends.specs.Text.{lines, words}
 use Rattle.unix_calls.specs.declared.Turn.{Turn}
 use Rattle.unix_calls.specs.declared.Turn.TheVariants.{Auto}
 use Rattle.unix_calls.specs.declared.World.{World}
 use Rattle.file_parts.specs.Parts.{Lines, world_lines, front_lines, schedule_lines, history_lines}
 use Rattle.script_reader.specs.declared.faults.Fault.{Fault}
-use Rattle.script_reader.specs.declared.faults.Kind.TheVariants.{UnknownWord}
 use Rattle.script_reader.specs.declared.faults.Kind.{Kind}
-use Rattle.script_reader.specs.declared.lines.Item.{Item}
-use Rattle.script_reader.specs.declared.lines.Item.TheVariants as item
+use Rattle.script_reader.specs.declared.faults.Kind.TheVariants.{UnknownWord}
 use Rattle.script_reader.specs.Kinds.{name_of}
-use Rattle.script_reader.specs.Lines.{is_skipped, cluster_line}
+use Rattle.script_reader.specs.Words.{Row, is_same, is_number}
 use Rattle.script_reader.specs.Files.{fault_at, read_part}
 use Rattle.run_text.specs.Schedule.{schedule}
+use Rattle.cluster_cli.specs.declared.input.Given.{Given}
 
--- a world and the turns of its schedule
-pub record Given : Type 0 where
-  pub world : World
-  pub turns : List Turn
-
--- the turns of a schedule part, or without one 200,000 by the rule of `auto`
+-- ---- the world and the schedule
+-- the turns of a schedule part, whose first line has this number, or without one 200,000 by the rule of `auto`
 abbrev pub turns_given : ℕ → ℕ → Option Lines → Result (List Turn) Fault
 turns_given nodes number None = Ok (Auto 200000 ∷ [])
 turns_given nodes number (Some ls) = schedule nodes number ls
@@ -38,38 +34,46 @@ with_schedule ls (Err fault) = Err fault
 abbrev pub given : List ℕ → Result Given Fault
 given input = with_schedule (lines input) (read_part 1 (world_lines (lines input)))
 
--- ---- one node, as yet
--- the number of a line that asks for more than one node
-abbrev pub many_at : ℕ → Result Item Kind → Option ℕ
-many_at number (Ok (item.Nodes n)) = if nat_lt 1 n then Some number else None
-many_at number _ = None
+-- ---- what is run, as yet on one node
+-- the dividing line of a history is a fault
+abbrev pub refused_history : ℕ → Given → Option Lines → Result Given Fault
+refused_history number g None = Ok g
+refused_history number g (Some history) = Err (fault_at number UnknownWord)
 
--- the number of the first line that says something, where it asks for more than one node
+-- a history is no part of what is run
+abbrev pub without_history : Lines → Result Given Fault → Result Given Fault
+without_history ls (Ok g) = refused_history (1 + length (front_lines ls)) g (history_lines ls)
+without_history ls (Err fault) = Err fault
+
+abbrev pub is_many : ℕ → Bool
+is_many n = nat_lt 1 n && nat_le n 64
+
+-- the line of a cluster of more than one node
+abbrev pub asks_many : Row → Bool
+asks_many (word ∷ number ∷ []) = is_same word (codes "cluster") && (is_number number && is_many (digits_value 10 number))
+asks_many _ = false
+
+-- the number of the first such line
 abbrev pub many_nodes : ℕ → Lines → Option ℕ
 many_nodes number [] = None
-many_nodes number (l ∷ ls) = if is_skipped (words l) then many_nodes (number + 1) ls else many_at number (cluster_line (words l))
+many_nodes number (l ∷ ls) = if asks_many (words l) then Some number else many_nodes (number + 1) ls
 
--- the lesser of two faults: that of a line, and one that was found
-abbrev pub least_fault : {A : Type 0} → Option ℕ → Result A Fault → Result A Fault
-least_fault None found = found
-least_fault (Some number) (Err fault) = if nat_lt fault.line number then Err fault else Err (fault_at number UnknownWord)
-least_fault (Some number) (Ok value) = Err (fault_at number UnknownWord)
+abbrev pub least : ℕ → Fault → Fault
+least number fault = if nat_lt fault.line number then fault else fault_at number UnknownWord
 
--- a history part is no part of what is run: its dividing line is a fault
-abbrev pub without_history : Lines → Result Given Fault → Result Given Fault
-without_history ls (Err fault) = Err fault
-without_history ls (Ok g) = refuse (history_lines ls) where
-  refuse : Option Lines → Result Given Fault
-  refuse None = Ok g
-  refuse (Some history) = Err (fault_at (1 + length (front_lines ls)) UnknownWord)
+-- a line that asks for more than one node is a fault beside those that there are
+abbrev pub on_one_node : Option ℕ → Result Given Fault → Result Given Fault
+on_one_node None found = found
+on_one_node (Some number) (Err fault) = Err (least number fault)
+on_one_node (Some number) (Ok g) = Err (fault_at number UnknownWord)
 
 -- the world and the schedule of an input that is to be run, or its least fault
 abbrev pub runnable : List ℕ → Result Given Fault
-runnable input = least_fault (many_nodes 1 (world_lines (lines input))) (without_history (lines input) (given input))
+runnable input = on_one_node (many_nodes 1 (world_lines (lines input))) (without_history (lines input) (given input))
 
 -- ---- what is said of a fault
 abbrev pub fault_text : Fault → List ℕ
-fault_text fault = codes "bad file: line " ++ decimal fault.line ++ codes ": " ++ name_of fault.kind ++ 10 ∷ []
+fault_text fault = codes "bad file: line " ++ (decimal fault.line ++ (codes ": " ++ (name_of fault.kind ++ codes "\n")))
 
 -- an input with a fault, by a reading, and the text that says so
 pub record Refuses (reading : List ℕ → Result Given Fault) (input output : List ℕ) : Type 0 where

@@ -9,12 +9,8 @@ use byte_ends::number_at;
 pub enum Command {
     /// To run a file by its schedule, and to write the history.
     Replay,
-    /// To judge the history part of a file.
-    Audit,
     /// To write the file of a load.
     Make(Load),
-    /// To run the file of a load on one node, and to count.
-    Load(Load),
 }
 
 /// The numbers of a load: 1 to 64 nodes, 1 to 200 processes.
@@ -44,8 +40,6 @@ fn plain_command(word: &str) -> Option<Command>
 {
     if is_word(word, "replay") {
         Some(Command::Replay)
-    } else if is_word(word, "audit") {
-        Some(Command::Audit)
     } else {
         None
     }
@@ -59,8 +53,6 @@ fn load_command(word: &str, seed: &str, nodes: &str, size: &str) -> Option<Comma
     let load = load_of(seed, nodes, size)?;
     if is_word(word, "make") {
         Some(Command::Make(load))
-    } else if is_word(word, "load") && load.nodes == 1 {
-        Some(Command::Load(load))
     } else {
         None
     }
