@@ -26,7 +26,7 @@ use Rattle.proc_image.proofs.Fits.{IsFit-moved, next_statement-valid}
 use Rattle.kernel_rules.specs.declared.rows.Row.{Row}
 use Rattle.kernel_rules.specs.Rows.{row_of}
 use Rattle.cluster_core.specs.declared.machine.Machine.{Machine}
-use Rattle.cluster_core.specs.Machine.{woken_image, roused, nudged, nudged_all, told, chosen, in_phase, advanced, image_after, placed, placed_image, with_image, child_pid, born, born_as, decided, serial_after, committed}
+use Rattle.cluster_core.specs.Machine.{woken_image, roused, nudged, told, chosen, in_phase, advanced, image_after, placed, placed_image, with_image, child_pid, born, born_as, decided, serial_after, committed}
 use Rattle.cluster_core.specs.Commit.{AllFit, first_movable}
 use Rattle.cluster_core.specs.Run.{Played, first_machine, played_by, played, gone_from, gone, is_stopped_phase, pushed_from, pushed, gone_times, turned, turn_count}
 
@@ -148,7 +148,7 @@ serial_committed world image r (Some entry) m =
     let there = placed_image next (decided r entry m) in
     let all = with_image (born world image entry) there in
     let same : (fold nudged all (told m.kernel all.kernel r entry all.groups)).serial ≡ serial_after m.serial entry =
-        serial_all_nudged (told m.kernel all.kernel r entry all.groups) all ∙ serial_with (born world image entry) there ∙ serial_placed next.phase next (decided r entry m) in
+    serial_all_nudged (told m.kernel all.kernel r entry all.groups) all ∙ serial_with (born world image entry) there ∙ serial_placed next.phase next (decided r entry m) in
     subst (λ (n : ℕ). n ≤ m.serial + 1) (sym same) (after_by m.serial (is_some (child_pid entry)))
 
 -- ---- turns

@@ -1,5 +1,5 @@
 -- values by process id that are given twice, or taken where there is none
-use Rattle.std.proofs.Common.{◌≡◌, ◌==◌, nat_lt, Bool, true, false, List, [], ◌∷◌, Option, None, Some, if◌then◌else◌, refl, arith}
+use Rattle.std.proofs.Common.{◌≡◌, ◌==◌, nat_lt, Bool, true, false, List, [], ◌∷◌, None, Some, if◌then◌else◌, refl, arith}
 use Rattle.std.proofs.lemmas.Bool.{eq-eqb, le-ltb}
 use Rattle.unix_names.specs.declared.Pid.{Pid}
 use Rattle.ordered_table.specs.declared.entries.Entry.{Entry}

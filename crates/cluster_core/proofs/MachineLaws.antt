@@ -68,11 +68,11 @@ pub committed_by : (world : World) (image : Image) (r : Row) (entry : Entry) (m 
     m2 ≡ placed_image next m1 → m3 ≡ with_image child m2 → slice ≡ pids → fold nudged m3 slice ≡ committed world image r (Some entry) m
 committed_by world image r entry m m1 m2 m3 child next pids slice bears decides tells moves places adds slices =
     let here : m3 ≡ settled world image r entry m =
-        adds ∙ ap (λ (o : Option Image). with_image o m2) bears ∙ ap (with_image (born world image entry)) (places ∙ ap (λ (i : Image). placed_image i m1) moves ∙ ap (placed_image (image_after world image entry)) decides) in
+    adds ∙ ap (λ (o : Option Image). with_image o m2) bears ∙ ap (with_image (born world image entry)) (places ∙ ap (λ (i : Image). placed_image i m1) moves ∙ ap (placed_image (image_after world image entry)) decides) in
     let to : slice ≡ told_of m.kernel (settled world image r entry m).kernel r entry (settled world image r entry m).groups =
-        slices ∙ tells ∙ ap (λ (n : Machine). told_of m.kernel n.kernel r entry n.groups) decides
-        ∙ ap (λ (rows : List Row). told_of m.kernel rows r entry (groups_after m.kernel r entry m.groups)) (sym (settled_kernel world image r entry m))
-        ∙ ap (λ (groups : Groups). told_of m.kernel (settled world image r entry m).kernel r entry groups) (sym (settled_groups world image r entry m)) in
+    slices ∙ tells ∙ ap (λ (n : Machine). told_of m.kernel n.kernel r entry n.groups) decides
+    ∙ ap (λ (rows : List Row). told_of m.kernel rows r entry (groups_after m.kernel r entry m.groups)) (sym (settled_kernel world image r entry m))
+    ∙ ap (λ (groups : Groups). told_of m.kernel (settled world image r entry m).kernel r entry groups) (sym (settled_groups world image r entry m)) in
     ap (λ (n : Machine). fold nudged n slice) here ∙ ap (fold nudged (settled world image r entry m)) to
 
 -- a fact on success, by one more equation

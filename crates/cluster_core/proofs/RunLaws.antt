@@ -6,7 +6,7 @@ use Rattle.unix_calls.specs.Valid.{IsValid}
 use Rattle.cluster_core.specs.declared.machine.Machine.{Machine}
 use Rattle.cluster_core.specs.Commit.{AllFit}
 use Rattle.cluster_core.specs.Run.{Played, first_machine, turned, run, turn_count, total_turns}
-use Rattle.cluster_core.proofs.FitLaws.{IsKept, turned-kept, kept_along, first_fits}
+use Rattle.cluster_core.proofs.FitLaws.{turned-kept, kept_along, first_fits}
 use Rattle.cluster_core.proofs.TurnLaws.{total_turns-drop, run_more}
 
 -- a run has come this far: the images fit the world, and there are pids for the turns that are left
@@ -19,7 +19,7 @@ pub record IsAt (world : World) (turns : List Turn) (i : ℕ) (p : Played) : Typ
 pub at_first : (world : World) (turns : List Turn) (p : Played) → IsValid world → total_turns turns ≤ 200000 → p.machine ≡ first_machine world → p.history ≡ [] → IsAt world turns 0 p
 at_first world turns p valid few machine history =
     let same : p ≡ record { machine = first_machine world; history = [] } =
-        ap (λ (m : Machine). record p { machine = m }) machine ∙ ap (λ (h : List _). record p { machine = first_machine world; history = h }) history in
+    ap (λ (m : Machine). record p { machine = m }) machine ∙ ap (λ (h : List _). record p { machine = first_machine world; history = h }) history in
     let serial : p.machine.serial ≡ (first_machine world).serial = ap (λ (m : Machine). m.serial) machine in
     let starts = valid.limits.starts in
     record {

@@ -7,7 +7,7 @@ use Rattle.unix_names.specs.declared.Pid.{Pid}
 use Rattle.unix_names.specs.declared.WaitStatus.{WaitStatus}
 use Rattle.unix_names.specs.declared.WaitStatus.TheVariants.{Exited, Killed}
 use Rattle.unix_calls.specs.declared.Call.TheVariants.{Exit, Kill, Setpgid, Setsid}
-use Rattle.unix_calls.specs.declared.Event.TheVariants.{StoppedBy, EndedBy, Continued}
+use Rattle.unix_calls.specs.declared.Event.TheVariants.{EndedBy}
 use Rattle.unix_calls.specs.declared.Entry.{Entry}
 use Rattle.unix_calls.specs.declared.Entry.TheVariants.{Called, Happened}
 use Rattle.unix_calls.specs.Calls.{target_of}
@@ -23,7 +23,7 @@ use Rattle.kernel_model.specs.Sent.{receives}
 use Rattle.kernel_model.specs.Ending.{rows_left, sent_by_end, after_end}
 use Rattle.kernel_model.specs.Step.{verdict, process_of, after_at}
 use Rattle.kernel_model.proofs.EndLaws.{any_map, stopped_before}
-use Rattle.cluster_core.specs.Machine.{Groups, others, members_of, groups_after, groups_left, told, told_of_kill_call, told_of_setpgid, told_of_setsid, stepped, stepped_by}
+use Rattle.cluster_core.specs.Machine.{Groups, others, groups_after, told, told_of_kill_call, told_of_setpgid, told_of_setsid, stepped, stepped_by}
 use Rattle.cluster_core.specs.Commit.{is_stopped_row, others_in, is_end, told_first, risked}
 
 -- ---- filters

@@ -1,5 +1,5 @@
 -- the first image that is not stopped, and turns on an empty queue
-use Rattle.std.proofs.Common.{◌≡◌, ◌∙◌, ◌+◌, ℕ, zero, suc, Bool, true, false, not, cond, List, [], ◌∷◌, ◌++◌, find, map, take, drop, length, get_or, ◌<◌, slice_get, Option, None, Some, if◌then◌else◌, option_map, append_assoc, refl, sym, ap, arith}
+use Rattle.std.proofs.Common.{◌≡◌, ◌∙◌, ◌+◌, ℕ, zero, suc, Bool, true, false, not, cond, List, [], ◌∷◌, ◌++◌, map, take, drop, length, get_or, ◌<◌, slice_get, Option, None, Some, if◌then◌else◌, option_map, append_assoc, refl, sym, ap, arith}
 use Rattle.std.proofs.lemmas.List.{map_more}
 use Rattle.std.proofs.lemmas.List.Sums.{fold_more}
 use Rattle.std.proofs.lemmas.Option.{get_or_from_slice_get, slice_get_within}

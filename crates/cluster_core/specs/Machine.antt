@@ -1,5 +1,5 @@
 -- One node between two turns, and what a process's turn does to it.
-use Rattle.std.specs.Prelude.{ℕ, suc, ℤ, pos, Bool, true, false, ◌==◌, not, if◌then◌else◌, List, [], ◌∷◌, ◌++◌, filter, fold, Option, None, Some, is_some, option_map, unwrap_or}
+use Rattle.std.specs.Prelude.{ℕ, suc, ℤ, pos, ◌==◌, not, if◌then◌else◌, List, [], ◌∷◌, ◌++◌, filter, fold, Option, None, Some, is_some, option_map, unwrap_or}
 use Rattle.std.specs.List.{flat_map}
 use Rattle.unix_names.specs.declared.Pid.{Pid}
 use Rattle.unix_calls.specs.declared.Call.{Call}
@@ -26,8 +26,8 @@ use Rattle.proc_image.specs.Images.{progress_of, child_image, moved_image}
 use Rattle.kernel_rules.specs.declared.rows.Row.{Row}
 use Rattle.kernel_model.specs.declared.verdict.Verdict.{Verdict}
 use Rattle.kernel_model.specs.declared.verdict.Verdict.TheVariants.{Legal, Illegal}
-use Rattle.kernel_rules.specs.Rows.{is_same, row_of, row_named}
-use Rattle.kernel_rules.specs.Refusals.{target_pid, wanted_group}
+use Rattle.kernel_rules.specs.Rows.{is_same, row_named}
+use Rattle.kernel_rules.specs.Refusals.{wanted_group}
 use Rattle.kernel_rules.specs.Orphans.{is_newly_orphaned}
 use Rattle.kernel_model.specs.Step.{verdict, after}
 use Rattle.kernel_choice.specs.Choice.{first_event, reply_of}

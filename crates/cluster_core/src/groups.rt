@@ -37,12 +37,7 @@ fn put_members(groups: &mut Groups, group: Pid, members: Seq<Pid>) -> Result<(),
 
 /// A process joins a group, as its last member.
 #[tactic(auto, using(crate::proofs::GroupLaws::with_value_again))]
-pub fn join(
-    alloc: Global,
-    groups: &mut Groups,
-    group: Pid,
-    pid: Pid,
-) -> Result<(), NoMemory>
+pub fn join(alloc: Global, groups: &mut Groups, group: Pid, pid: Pid) -> Result<(), NoMemory>
     ensures { OnOk result (groups.new ≡ joined group pid groups.old) }
 {
     let mut members = take_members(alloc, groups, group)?;
@@ -82,12 +77,7 @@ fn move_member(
     join(alloc, groups, new, pid)
 }
 
-fn after_fork(
-    alloc: Global,
-    groups: &mut Groups,
-    row: &Row,
-    reply: &Reply,
-) -> Result<(), NoMemory>
+fn after_fork(alloc: Global, groups: &mut Groups, row: &Row, reply: &Reply) -> Result<(), NoMemory>
     ensures { OnOk result (groups.new ≡ groups_after_fork row.now reply.now groups.old) }
 {
     match *reply {

@@ -136,10 +136,7 @@ fn kills(pid: u32, target: i64, sig: u32, reply: Reply) -> Entry {
 }
 
 fn groups(pid: u32, number: u32, pgid: i64, reply: Reply) -> Entry {
-    let call = Call::Setpgid {
-        pid: number,
-        pgid,
-    };
+    let call = Call::Setpgid { pid: number, pgid };
     called(pid, call, reply)
 }
 
@@ -291,7 +288,12 @@ fn a_newly_orphaned_group_is_hung_up(rt: HostRuntime) -> Result<(), Fail> {
         kills(3, 3, STOP, Reply::Fine),
         waits(2, 3, true, Reply::Again),
         happened(3, Event::StoppedBy(Signal::Stop)),
-        waits(2, 3, true, Reply::Child(Pid(3), WaitStatus::Stopped(Signal::Stop))),
+        waits(
+            2,
+            3,
+            true,
+            Reply::Child(Pid(3), WaitStatus::Stopped(Signal::Stop)),
+        ),
         exits(2, 0),
         happened(3, Event::Continued),
         happened(3, Event::EndedBy(Signal::Hup)),
@@ -409,11 +411,21 @@ fn a_stopped_child_is_continued_and_killed(rt: HostRuntime) -> Result<(), Fail> 
         waits(2, 3, true, Reply::Again),
         kills(3, 3, STOP, Reply::Fine),
         happened(3, Event::StoppedBy(Signal::Stop)),
-        waits(2, 3, true, Reply::Child(Pid(3), WaitStatus::Stopped(Signal::Stop))),
+        waits(
+            2,
+            3,
+            true,
+            Reply::Child(Pid(3), WaitStatus::Stopped(Signal::Stop)),
+        ),
         kills(2, 3, CONT, Reply::Fine),
         kills(2, 3, 9, Reply::Fine),
         happened(3, Event::EndedBy(Signal::Kill)),
-        waits(2, 3, false, Reply::Child(Pid(3), WaitStatus::Killed(Signal::Kill))),
+        waits(
+            2,
+            3,
+            false,
+            Reply::Child(Pid(3), WaitStatus::Killed(Signal::Kill)),
+        ),
         exits(2, 0),
     ];
     check(&rt, alloc, scripts, history.as_slice())
@@ -426,7 +438,11 @@ fn a_push_moves(rt: HostRuntime) -> Result<(), Fail> {
     add_script(alloc, &mut scripts, &[Statement::Getpid])?;
     let world = world(alloc, scripts)?;
     assert!(rt; world.is_valid() && world.nodes == 1);
-    let pushed = run(alloc, &world, &[Turn::Push(0, 0), Turn::Go(1), Turn::Auto(20)])?;
+    let pushed = run(
+        alloc,
+        &world,
+        &[Turn::Push(0, 0), Turn::Go(1), Turn::Auto(20)],
+    )?;
     let history = [
         happened(2, Event::Moved),
         number(2, Call::Getpid, 2),
@@ -435,7 +451,10 @@ fn a_push_moves(rt: HostRuntime) -> Result<(), Fail> {
     assert_eq!(rt; pushed.entries.as_slice(), history.as_slice());
     assert!(rt; pushed.is_quiet);
     let open = run(alloc, &world, &[Turn::Take(0, 1), Turn::Go(0)])?;
-    assert_eq!(rt; open.entries.as_slice(), [number(2, Call::Getpid, 2)].as_slice());
+    assert_eq!(rt;
+        open.entries.as_slice(),
+        [number(2, Call::Getpid, 2)].as_slice()
+    );
     assert!(rt; !open.is_quiet);
     Ok(())
 }

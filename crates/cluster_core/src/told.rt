@@ -26,12 +26,7 @@ fn add_others(told: &mut Seq<Pid>, pids: &[Pid], pid: Pid) -> Result<(), NoMemor
 }
 
 /// Adds all members of a group but one process to a list.
-fn add_members(
-    told: &mut Seq<Pid>,
-    groups: &Groups,
-    group: Pid,
-    pid: Pid,
-) -> Result<(), NoMemory>
+fn add_members(told: &mut Seq<Pid>, groups: &Groups, group: Pid, pid: Pid) -> Result<(), NoMemory>
     ensures { OnOk result (told.new ≡ told.old ++ others pid (members_of groups.now group)) }
 {
     match groups.get(group) {

@@ -1,4 +1,4 @@
-use Rattle.std.proofs.Common.{◌≡◌, take, fold, []}
+use Rattle.std.proofs.Common.{◌≡◌, take}
 use Rattle.cluster_core.specs.Run.{first_groups}
 use Rattle.cluster_core.proofs.groups.first_groups.Given as goal
 

@@ -12,7 +12,7 @@ returns-then-is_empty c =
 pub loop-left-preserved : goal.loop-left-preserved
 loop-left-preserved c =
     let kept = kept_along c.args.world.now 1 c.loop-left.self (gone c.args.world.now c.loop-left.self) c.go.new.self c.in_ok-go.ensures
-        (gone-kept c.args.world.now c.loop-left.self c.requires.valid c.loop-left.invariant.fits) in
+    (gone-kept c.args.world.now c.loop-left.self c.requires.valid c.loop-left.invariant.fits) in
     let most = kept.serial in
     let room = c.loop-left.invariant.room in
     let more : c.loop-left.left ≡ suc (c.loop-left.left - 1) = omega arith in
