@@ -11,6 +11,8 @@ mod names;
 mod places;
 mod starts;
 mod statements;
+#[cfg(test)]
+mod tests;
 mod words;
 
 pub use faults::{Fault, Kind, ReadRefusal};

@@ -37,7 +37,7 @@ returns-in-Some-clause-bad c = λ fault e.
     let read : IsRead lines names scripts place = record { names_are = c.in_ok-names.ensures; scripts_are = c.in_ok-scripts.ensures.scripts; place_is = c.in_ok-scripts.ensures.place } in
     let all : c.deref.result.now ≡ works scripts = cc (c.deref.ensures.value, c.in_ok-works.ensures, c.as_slice.ensures) in
     let fine : judged (works scripts) [] c.args.first_line (tells names first_place lines) ≡ Ok c.in_ok-starts.starts = rw all at c.in_ok-starts.ensures.starts in
-    let size : length lines ≡ length c.args.lines.now = length-map (λ l. l.now) c.args.lines.now in
+    let size : length lines ≡ length c.args.lines.now = length-map c.args.lines.now (λ l. l.now) in
     let line : c.last_line.result ≡ c.args.first_line + length lines - 1 = c.last_line.ensures ∙ ap (λ (n : ℕ). c.args.first_line + n - 1) (sym size) in
     let same : fault_at (c.args.first_line + length lines - 1) c.in-Some.kind ≡ fault = cc (e, c.bad-in-Some.ensures, line) in
     rw (← same) (whole-open c.args.first_line lines names scripts place c.in_ok-starts.starts c.in-Some.kind read c.if-not-place.false fine (cc (c.end_kind.ensures, c.in-Some.is)))
