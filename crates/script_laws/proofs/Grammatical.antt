@@ -1,35 +1,24 @@
 -- lines without a fault are lines of the grammar
-use Rattle.std.proofs.Common.{◌≡◌, ◌==◌, ◌⊎◌, inl, inr, ◌++◌, ℕ, zero, suc, ◌+◌, ◌-◌, ◌<◌, ◌≤◌, Bool, true, false, cond, List, [], ◌∷◌, length, length-append, drop, refl, sym, ap, ◌∙◌, subst, arith, Option, Some, None, Result, Ok, Err, append_assoc}
-use Rattle.std.specs.Prelude.{codes, slice_get, map, nat_le, nat_lt}
+use Rattle.std.proofs.Common.{◌≡◌, inl, inr, ◌++◌, ℕ, zero, suc, ◌+◌, ◌<◌, ◌≤◌, true, List, [], ◌∷◌, length, drop, refl, sym, ap, ◌∙◌, arith, Some, None}
+use Rattle.std.specs.Prelude.{codes, slice_get, nat_le, nat_lt}
 use Rattle.std.proofs.lemmas.Bool.{ltb-true}
-use Rattle.std.proofs.lemmas.List.{append-nil}
-use Rattle.unix_calls.specs.declared.Script.{Script}
 use Rattle.unix_calls.specs.declared.Start.{Start}
-use Rattle.unix_calls.specs.declared.Work.{Work}
-use Rattle.unix_calls.specs.declared.Statement.{Statement}
-use Rattle.script_reader.specs.declared.faults.Kind.{Kind}
 use Rattle.script_reader.specs.declared.faults.Kind.TheVariants.{UnknownWord}
 use Rattle.script_reader.specs.declared.names.Names.{Names}
 use Rattle.script_reader.specs.declared.places.Place.{Place}
-use Rattle.script_reader.specs.declared.lines.Item.{Item}
-use Rattle.script_reader.specs.declared.lines.Item.TheVariants as item
 use Rattle.script_reader.specs.declared.lines.StartLine.{StartLine}
-use Rattle.script_reader.specs.Words.{Word, Row, ◌>>=◌, found, is_same, word_at, name, number}
-use Rattle.script_reader.specs.Names.{Table, number_in}
-use Rattle.script_reader.specs.Lines.{is_skipped, place_after, user, earlier_start, joined}
-use Rattle.script_reader.specs.Statements.{ended, text_of}
-use Rattle.script_reader.specs.Files.{begins_with, words_behind, Told, place_behind, said, with_said, body, scripts_of, start_of, with_start, judged}
-use Rattle.script_laws.specs.Grammar.{IsName, Naming, IsCalled, IsFor, IsUser, Joins, SpellsStart, Lines}
-use Rattle.script_laws.proofs.Results.{Gives, next, choice, gives, fails, found_there, weaker, anything}
-use Rattle.script_laws.proofs.Words.{same_words, skipped_script, begins_so, verb_script, script_word}
-use Rattle.script_laws.proofs.Lines.{IsStartLine, Step, silent, opens, begins, ends, says, starts}
-use Rattle.script_laws.proofs.Walks.{starts_now, judged_next, Walk}
-use Rattle.script_laws.proofs.Scripts.{is_beginning, script_marked, body_is, scripts_are}
+use Rattle.script_reader.specs.Words.{Word, Row, found, is_same, word_at, name, number}
+use Rattle.script_reader.specs.Names.{number_in}
+use Rattle.script_reader.specs.Lines.{user, earlier_start, joined}
+use Rattle.script_reader.specs.Files.{start_of}
+use Rattle.script_laws.specs.Grammar.{IsName, Naming, IsCalled, IsFor, IsUser, Joins, SpellsStart}
+use Rattle.script_laws.proofs.Results.{Gives, next, choice, gives, fails, found_there}
+use Rattle.script_laws.proofs.Words.{same_words}
+use Rattle.script_laws.proofs.Lines.{IsStartLine}
 use Rattle.script_laws.proofs.Starts.{variable_there}
-use Rattle.script_laws.proofs.Numbered.{rows_of}
 use Rattle.script_laws.proofs.Understood.{name_understood, number_understood, node_understood}
-use Rattle.script_laws.proofs.Shapes.{opened, dropped, row_1, row_2, row_rest, ended_so, number_some, name_some}
-use Rattle.script_laws.proofs.Said.{Follows, script_understood, statement_said}
+use Rattle.script_laws.proofs.Shapes.{opened, dropped, row_rest, ended_so, number_some, name_some}
+use Rattle.script_laws.proofs.Said.{Follows, script_understood}
 
 exists_at : (xs : List Start) (j : ℕ) → j < length xs → (s : Start) × (slice_get xs j ≡ Some s)
 exists_at [] j lt = absurd (omega arith)
@@ -97,7 +86,7 @@ module _ (names : Names) (naming : Naming) (follows : Follows names naming) (all
           (word_at row (count + 1), x.0, shape (word_at row (count + 1)) w (ap (word_at row) (sym one_more)) (name_some (word_at row (count + 1)) is) (ap (nat_le (length row)) (sym two_more) ∙ le), x.1, called)
 
   -- a start without a fault
-  start_said : (place : Place) (row : Row) (s : StartLine) (earlier : List Start) → word_at row 0 ≡ codes "start" → IsStartLine names place row s → place.starts ≤ length all → SpellsStart naming all row (start_of earlier s)
+  pub start_said : (place : Place) (row : Row) (s : StartLine) (earlier : List Start) → word_at row 0 ≡ codes "start" → IsStartLine names place row s → place.starts ≤ length all → SpellsStart naming all row (start_of earlier s)
   unfolding start_of
   start_said place row s earlier w l few =
       let site = (node_understood place.nodes (word_at row 1)).fact s.node l.node in

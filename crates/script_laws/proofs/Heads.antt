@@ -1,7 +1,6 @@
 -- how lines are read by their first words
-use Rattle.std.proofs.Common.{◌≡◌, ◌==◌, ℕ, Bool, true, false, cond, List, [], ◌∷◌, refl, sym, ap, ◌∙◌, Option, Some, None, Result, Ok, Err}
+use Rattle.std.proofs.Common.{◌≡◌, true, false, [], ◌∷◌, refl, sym, Ok}
 use Rattle.std.specs.Prelude.{codes}
-use Rattle.script_reader.specs.declared.faults.Kind.{Kind}
 use Rattle.script_reader.specs.declared.names.Names.{Names}
 use Rattle.script_reader.specs.declared.places.Place.{Place}
 use Rattle.script_reader.specs.declared.statements.Verb.{Verb}
@@ -9,10 +8,9 @@ use Rattle.script_reader.specs.declared.statements.Verb.TheVariants as verb
 use Rattle.script_reader.specs.declared.lines.Head.{Head}
 use Rattle.script_reader.specs.declared.lines.Head.TheVariants as head
 use Rattle.script_reader.specs.declared.lines.Item.{Item}
-use Rattle.script_reader.specs.declared.lines.Item.TheVariants as item
 use Rattle.script_reader.specs.Words.{Word, Row, is_same, word_at}
 use Rattle.script_reader.specs.Statements.{text_of, verb_named}
-use Rattle.script_reader.specs.Lines.{is_skipped, begins_with_hash, head_of, later_line, read_row, nodes_after, placed_after, place_after}
+use Rattle.script_reader.specs.Lines.{is_skipped, head_of, later_line, read_row, nodes_after, placed_after, place_after}
 
 -- a word that says how its line is read
 pub record IsHead (word : Word) (h : Head) : Type 0 where

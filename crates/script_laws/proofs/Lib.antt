@@ -23,3 +23,6 @@ pub mod Shapes
 pub mod Said
 pub mod Tabled
 pub mod Grammatical
+pub mod Built
+pub mod Exact
+pub mod Least

@@ -1,9 +1,8 @@
 -- what a line without a fault says, and where the next line stands
-use Rattle.std.proofs.Common.{◌≡◌, ◌≢◌, ◌==◌, ◌&&◌, ℕ, ◌+◌, ◌<◌, ◌≤◌, Bool, true, false, cond, List, [], ◌∷◌, length, refl, sym, ap, ◌∙◌, subst, arith, Option, Some, None, Result, Ok, Err}
+use Rattle.std.proofs.Common.{◌≡◌, ◌==◌, ◌&&◌, ℕ, ◌≤◌, Bool, true, false, cond, length, refl, sym, ap, Ok}
 use Rattle.std.specs.Prelude.{codes, nat_le, nat_lt}
-use Rattle.std.proofs.lemmas.Bool.{ltb-true, leb-true, and_parts, eqb-false}
+use Rattle.std.proofs.lemmas.Bool.{ltb-true, leb-true, and_parts}
 use Rattle.unix_calls.specs.declared.world.Statement.{Statement}
-use Rattle.script_reader.specs.declared.faults.Kind.{Kind}
 use Rattle.script_reader.specs.declared.faults.Kind.TheVariants.{NoClusterLine, UnknownWord, TooManyNodes, TooManyScripts, TooManyStatements, TooManyStarts, DoubleName}
 use Rattle.script_reader.specs.declared.names.Names.{Names}
 use Rattle.script_reader.specs.declared.places.Place.{Place}
@@ -13,12 +12,11 @@ use Rattle.script_reader.specs.declared.lines.Head.TheVariants as head
 use Rattle.script_reader.specs.declared.lines.Item.{Item}
 use Rattle.script_reader.specs.declared.lines.Item.TheVariants as item
 use Rattle.script_reader.specs.declared.lines.StartLine.{StartLine}
-use Rattle.script_reader.specs.Words.{Word, Row, ◌>>=◌, is_same, word_at, name, number}
-use Rattle.script_reader.specs.Names.{Table, number_in}
+use Rattle.script_reader.specs.Words.{Row, is_same, word_at, name, number}
 use Rattle.script_reader.specs.Statements.{ended, text_of, node, script, statement_of, verb_named}
 use Rattle.script_reader.specs.Lines.{is_skipped, head_of, is_numbered, cluster_line, script_line, end_line, statement_line, start_variable, user, joined, start_words, start_line, later_line, read_row, nodes_after, placed_after, place_after}
 use Rattle.script_laws.proofs.Results.{next_ok, then_ok, else_ok, ended_ok}
-use Rattle.script_laws.proofs.Words.{same_words, words_same, BeginsSo, head_word}
+use Rattle.script_laws.proofs.Words.{same_words, BeginsSo, head_word}
 
 -- the words of a start, read where it stands
 pub record IsStartLine (names : Names) (place : Place) (row : Row) (s : StartLine) : Type 0 where
@@ -113,8 +111,8 @@ module _ (names : Names) (place : Place) (row : Row) (i : Item) where
       let variable = next_ok (start_variable names place (word_at row 3)) _ i runs.2 in
       let uid = next_ok (user row) _ i variable.2 in
       let other = next_ok (joined names place uid.0.1 row) _ i uid.2 in
-      let is : item.Starts (record { node = site.0; script = runs.0; var = variable.0; uid = uid.0.0; joined = other.0 }) ≡ i = cc in
-      started_now _ skip begun h w a.0 b.0 (record { node = site.1; script = runs.1; var = variable.1; count = uid.0.1; uid = uid.1; joined = other.1 }) (sym is)
+      let is : i ≡ item.Starts (record { node = site.0; script = runs.0; var = variable.0; uid = uid.0.0; joined = other.0 }) = cc in
+      started_now _ skip begun h w a.0 b.0 (record { node = site.1; script = runs.1; var = variable.1; count = uid.0.1; uid = uid.1; joined = other.1 }) is
 
   later_now : (h : Head) → is_skipped row ≡ false → place.begun ≡ true → head_of (word_at row 0) ≡ h → BeginsSo (word_at row 0) h → later_line names place h row ≡ Ok i → Here
   unfolding later_line

@@ -1,19 +1,17 @@
 -- the names that lines of the grammar give
-use Rattle.std.proofs.Common.{◌≡◌, ◌==◌, ◌++◌, ℕ, zero, suc, ◌+◌, ◌<◌, Bool, true, false, cond, List, [], ◌∷◌, length, refl, sym, ap, ◌∙◌, subst, arith, Option, Some, None}
-use Rattle.std.specs.Prelude.{codes, slice_get, map, filter, is_some}
+use Rattle.std.proofs.Common.{◌≡◌, ◌++◌, ℕ, Bool, true, false, cond, List, [], ◌∷◌, refl, sym, ap, ◌∙◌, subst, Option, Some, None}
+use Rattle.std.specs.Prelude.{codes, map, is_some}
 use Rattle.std.specs.List.{flat_map, filter_map, cons_option}
 use Rattle.unix_calls.specs.declared.World.{World}
 use Rattle.unix_calls.specs.declared.Script.{Script}
 use Rattle.unix_calls.specs.declared.Start.{Start}
 use Rattle.unix_calls.specs.declared.Statement.{Statement}
 use Rattle.unix_calls.specs.declared.Statement.TheVariants as statement
-use Rattle.script_reader.specs.declared.statements.Verb.{Verb}
 use Rattle.script_reader.specs.Words.{Word, Row, is_same, word_at}
 use Rattle.script_reader.specs.Statements.{text_of}
-use Rattle.script_reader.specs.Lines.{is_skipped}
 use Rattle.script_reader.specs.Files.{begins_with, words_behind}
-use Rattle.script_laws.specs.Writable.{assigned, assigned_by, variables_of}
-use Rattle.script_laws.specs.Grammar.{Naming, IsCalled, Spells, SpellsStart, Lines, ends, skips, starts, begins, says, closes, Part, silent, opens}
+use Rattle.script_laws.specs.Writable.{assigned, assigned_by}
+use Rattle.script_laws.specs.Grammar.{Naming, IsCalled, Spells, Lines, ends, skips, starts, begins, says, closes, Part, silent, opens}
 use Rattle.script_laws.proofs.Words.{skipped_script, skipped_start, skipped_fork, begins_so, verb_script, verb_start, script_word, start_word, fork_word}
 use Rattle.script_laws.proofs.Spoken.{verb_of, first_word}
 use Rattle.script_laws.proofs.Told.{statements_of}

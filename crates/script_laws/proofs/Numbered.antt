@@ -1,6 +1,6 @@
 -- a part without a fault means a world that is numbered as files number
-use Rattle.std.proofs.Common.{◌≡◌, ◌==◌, ◌++◌, ℕ, zero, suc, ◌+◌, ◌<◌, ◌≤◌, Bool, true, false, cond, List, [], ◌∷◌, length, refl, sym, ap, ◌∙◌, subst, arith, Option, Some, None, Result, Ok, Err, append_assoc, All}
-use Rattle.std.specs.Prelude.{codes, map, filter, get_or, slice_get}
+use Rattle.std.proofs.Common.{◌≡◌, ◌==◌, ◌++◌, ℕ, ◌+◌, ◌≤◌, Bool, true, false, cond, List, [], ◌∷◌, length, refl, sym, ap, ◌∙◌, subst, arith, Option, Some, None, Result, Ok, Err, append_assoc, All}
+use Rattle.std.specs.Prelude.{codes, map, filter}
 use Rattle.std.specs.List.{flat_map, filter_map, cons_option}
 use Rattle.std.proofs.lemmas.Bool.{eqb-false}
 use Rattle.std.proofs.lemmas.List.{append-nil, map-append}
@@ -19,16 +19,16 @@ use Rattle.script_reader.specs.declared.places.Place.{Place}
 use Rattle.script_reader.specs.declared.lines.Item.{Item}
 use Rattle.script_reader.specs.declared.lines.Item.TheVariants as item
 use Rattle.script_reader.specs.Words.{Word, Row, word_at}
-use Rattle.script_reader.specs.Names.{Table, number_in}
+use Rattle.script_reader.specs.Names.{Table}
 use Rattle.script_reader.specs.Lines.{read_line, place_after}
-use Rattle.script_reader.specs.Files.{begins_with, words_behind, gather, Told, first_place, tells, place_behind, said, with_said, body, scripts_of, start_of, with_start, judged, listed, end_kind}
+use Rattle.script_reader.specs.Files.{begins_with, words_behind, gather, Told, first_place, tells, said, with_said, body, scripts_of, start_of, judged, listed}
 use Rattle.script_laws.specs.Writable.{IsWrittenStatement, assigned, assigned_by, AreInOrder, variables_of, IsWritable}
 use Rattle.script_laws.specs.Worlds.{ReadIsWritable}
-use Rattle.script_laws.proofs.Statements.{IsSmall, IsRead, AreVariables}
+use Rattle.script_laws.proofs.Statements.{IsRead}
 use Rattle.script_laws.proofs.Tables.{none_listed}
 use Rattle.script_laws.proofs.Lines.{Step, silent, opens, begins, ends, says, starts}
 use Rattle.script_laws.proofs.Walks.{starts_now, judged_next, Walk}
-use Rattle.script_laws.proofs.Scripts.{is_beginning, script_marked, body_is, scripts_are, IsReadScript, AreReadScripts}
+use Rattle.script_laws.proofs.Scripts.{is_beginning, script_marked, body_is, scripts_are, AreReadScripts}
 use Rattle.script_laws.proofs.Parts.{names_of, told_of, last_place, world_of, IsWhole, whole, walk, started as are_started, scripted, variables_known, world_valid}
 use Rattle.script_laws.proofs.Orders.{AreNumbers, numbers-append, listed-append, in_order}
 use Rattle.script_laws.proofs.Variables.{Marked, forked, started, fork_step, start_step}
@@ -44,7 +44,7 @@ given_by f told = filter_map (λ t. given f t.1) told
 abbrev pub rows_of : List Told → List Row
 rows_of told = map (λ t. t.0) told
 
-rows_told : (names : Names) (place : Place) (lines : List (List ℕ)) → rows_of (tells names place lines) ≡ map words lines
+pub rows_told : (names : Names) (place : Place) (lines : List (List ℕ)) → rows_of (tells names place lines) ≡ map words lines
 unfolding tells
 rows_told names place [] = refl
 rows_told names place (line ∷ lines) = ap (λ (rs : List Row). words line ∷ rs) (rows_told names (place_after place (words line) (read_line names place line)) lines)
@@ -96,7 +96,7 @@ closed_step names place row i now later (ends k b w o l e n) c none = cc
 closed_step names place row i now later (says v s k b w o cn st e n) c none = cc
 closed_step names place row i now later (starts s k b w cn o st e n) c none = rw e (none (ap (λ p. p.is_open) n ∙ c))
 
-closed_body : (names : Names) (place : Place) (told : List Told) → Walk names place told → place.is_open ≡ false → body told ≡ []
+pub closed_body : (names : Names) (place : Place) (told : List Told) → Walk names place told → place.is_open ≡ false → body told ≡ []
 unfolding body
 closed_body names place [] w c = refl
 closed_body names place (t ∷ rest) w c =
@@ -168,7 +168,7 @@ module _ (first : ℕ) (lines : List (List ℕ)) (world : World) (w : IsWhole fi
   unfolding gather
   all_listed = listed-append [] (words_behind (codes "fork") 1 FileRows) (words_behind (codes "start") 3 FileRows)
 
-  ordered : AreInOrder 0 (variables_of (world_of lines w.starts)) (length (names_of lines).variables)
+  pub ordered : AreInOrder 0 (variables_of (world_of lines w.starts)) (length (names_of lines).variables)
   ordered =
       subst (λ (t : Table). AreInOrder 0 (variables_of (world_of lines w.starts)) (length t)) (sym all_listed)
       (in_order [] (words_behind (codes "fork") 1 FileRows ++ words_behind (codes "start") 3 FileRows) (variables_of (world_of lines w.starts)) none_listed
@@ -179,7 +179,7 @@ module _ (first : ℕ) (lines : List (List ℕ)) (world : World) (w : IsWhole fi
   written_scripts k (s ∷ ss) all =
       All-cons (λ script. All IsWrittenStatement script.statements) s ss (All-weaker (IsRead (world_of lines w.starts) k) IsWrittenStatement (λ x h. h.1) s.statements all.0.1) (written_scripts (k + 1) ss all.1)
 
-  some_starts : 1 ≤ length w.starts
+  pub some_starts : 1 ≤ length w.starts
   some_starts = started_some (last_place lines).is_open (last_place lines).starts (length w.starts) w.ended ((are_started first lines world w).count)
 
   world_writable : IsWritable (world_of lines w.starts)

@@ -1,23 +1,18 @@
 -- the names of a part of the grammar get the numbers of its naming
-use Rattle.std.proofs.Common.{◌≡◌, ◌==◌, ◌⊎◌, inl, inr, ◌++◌, ℕ, zero, suc, ◌+◌, ◌<◌, ◌≤◌, Bool, true, false, cond, List, [], ◌∷◌, length, take, refl, sym, ap, ◌∙◌, subst, arith, Option, Some, None, All}
+use Rattle.std.proofs.Common.{◌≡◌, ◌⊎◌, inl, inr, ◌++◌, ℕ, zero, suc, ◌+◌, ◌<◌, cond, List, [], ◌∷◌, length, take, refl, sym, ap, ◌∙◌, subst, arith, Option, Some, None}
 use Rattle.std.specs.Prelude.{codes, slice_get, get_or, map, is_some}
-use Rattle.std.specs.Option.{option_or}
-use Rattle.std.proofs.lemmas.Option.{slice_get_within, slice_get-get_or, get_or_from_slice_get}
+use Rattle.std.proofs.lemmas.Option.{slice_get_within, get_or_from_slice_get}
 use Rattle.std.proofs.lemmas.List.{get_or-take, length-take-le}
-use Rattle.std.proofs.lemmas.List.Elements.{All-head, All-tail}
 use Rattle.unix_calls.specs.declared.World.{World}
 use Rattle.unix_calls.specs.declared.Start.{Start}
-use Rattle.unix_calls.specs.Valid.{EachAt, IsStart, IsValid}
-use Rattle.script_reader.specs.declared.names.Names.{Names}
-use Rattle.script_reader.specs.Words.{Word, Row, is_same}
+use Rattle.unix_calls.specs.Valid.{IsValid}
+use Rattle.script_reader.specs.Words.{Word, Row}
 use Rattle.script_reader.specs.Names.{Table, number_in, noted}
 use Rattle.script_reader.specs.Files.{words_behind, numbered, listed, gather}
 use Rattle.script_laws.specs.Writable.{AreInOrder, variables_of}
 use Rattle.script_laws.specs.Grammar.{IsName, Naming, IsCalled, AreNames}
-use Rattle.script_laws.proofs.Words.{same_words, words_same}
 use Rattle.script_laws.proofs.Tables.{noted_from, noted_length}
 use Rattle.script_laws.proofs.Orders.{noted_still, noted_new, listed-append}
-use Rattle.script_laws.proofs.Reading.{Agrees}
 use Rattle.script_laws.proofs.Spoken.{HasNaming, HasStarts}
 use Rattle.script_laws.proofs.Named.{AreCalled, called-append, GivesNames}
 

@@ -1,24 +1,23 @@
 -- a whole part without a fault
-use Rattle.std.proofs.Common.{◌≡◌, ◌≢◌, ◌==◌, ℕ, zero, suc, ◌+◌, ◌-◌, ◌<◌, ◌≤◌, Bool, true, false, cond, List, [], ◌∷◌, ◌++◌, length, length-append, refl, sym, ap, ◌∙◌, subst, arith, Option, Some, None, Result, Ok, Err, All}
-use Rattle.std.specs.Prelude.{codes, slice_get, map, filter}
+use Rattle.std.proofs.Common.{◌≡◌, ℕ, suc, ◌+◌, ◌-◌, Bool, true, false, cond, List, [], ◌∷◌, length, refl, sym, ap, subst, arith, Option, Some, None, Result, Ok, Err, All}
+use Rattle.std.specs.Prelude.{codes, map, filter}
 use Rattle.std.proofs.lemmas.List.Elements.{All-nil, All-weaker}
 use Rattle.byte_ends.specs.Text.{words}
 use Rattle.unix_calls.specs.declared.World.{World}
 use Rattle.unix_calls.specs.declared.Script.{Script}
 use Rattle.unix_calls.specs.declared.Start.{Start}
-use Rattle.unix_calls.specs.declared.Work.{Work}
 use Rattle.unix_calls.specs.Valid.{IsStatement, IsScript, IsValid}
-use Rattle.unix_calls.specs.Work.{works, total_work}
+use Rattle.unix_calls.specs.Work.{works}
 use Rattle.script_reader.specs.declared.faults.Kind.{Kind}
 use Rattle.script_reader.specs.declared.faults.Fault.{Fault}
 use Rattle.script_reader.specs.declared.names.Names.{Names}
 use Rattle.script_reader.specs.declared.places.Place.{Place}
-use Rattle.script_reader.specs.Words.{Word, Row, word_at}
+use Rattle.script_reader.specs.Words.{word_at}
 use Rattle.script_reader.specs.Lines.{read_line, place_after}
 use Rattle.script_reader.specs.Files.{begins_with, words_behind, gather, Told, first_place, tells, place_behind, body, scripts_of, judged, end_kind, silent_kind, ended_world, whole_world, fault_at, told_part, read_part}
 use Rattle.script_laws.specs.Worlds.{ReadIsValid}
 use Rattle.script_laws.proofs.Statements.{AreVariables, IsRead}
-use Rattle.script_laws.proofs.Tables.{AreBelow, IsListed, variables_listed, scripts_below}
+use Rattle.script_laws.proofs.Tables.{AreBelow, variables_listed, scripts_below}
 use Rattle.script_laws.proofs.Walks.{all_read, Walk, walked, cluster_fits}
 use Rattle.script_laws.proofs.Scripts.{scripts_fit, scripts_few, IsReadScript, AreReadScripts, at_scripts}
 use Rattle.script_laws.proofs.Starts.{AreStarted, starts_fit}

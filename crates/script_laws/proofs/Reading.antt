@@ -1,32 +1,27 @@
 -- words of the grammar are read as what they spell
-use Rattle.std.proofs.Common.{◌≡◌, ◌==◌, ◌&&◌, ◌||◌, ◌⊎◌, inl, inr, ℕ, suc, ◌+◌, ◌<◌, ◌≤◌, ◌^◌, Bool, true, false, cond, not, ltb, leb, List, [], ◌∷◌, length, refl, sym, ap, ◌∙◌, subst, arith, Option, Some, None, Result, Ok, Err, All}
-use Rattle.std.specs.Prelude.{codes, slice_get, nat_le, nat_lt, fold}
-use Rattle.std.specs.List.{list_any, list_all, AllZip, find}
-use Rattle.std.specs.Str.{bytes_eq}
+use Rattle.std.proofs.Common.{◌≡◌, ◌==◌, ◌&&◌, inl, inr, ℕ, ◌<◌, ◌≤◌, ◌^◌, Bool, true, false, ltb, List, [], ◌∷◌, length, refl, sym, ap, ◌∙◌, subst, arith, Some, Ok, All}
+use Rattle.std.specs.Prelude.{codes, nat_le, nat_lt, fold}
+use Rattle.std.specs.List.{list_any, list_all, AllZip}
 use Rattle.std.specs.Str.Parse.{digits_value}
 use Rattle.std.proofs.lemmas.Bool.{le-leb, lt-ltb, and_parts, eqb-true, leb-true, lt-leb}
 use Rattle.std.proofs.lemmas.List.Elements.{All-head, All-tail}
-use Rattle.byte_ends.specs.Text.{IsNumber}
 use Rattle.unix_names.specs.declared.Signal.{Signal}
 use Rattle.unix_names.specs.declared.Signal.TheVariants.{Hup}
 use Rattle.unix_names.specs.declared.Act.{Act}
 use Rattle.unix_names.specs.declared.Act.TheVariants.{Default, Ignore, Catch}
-use Rattle.unix_names.specs.declared.NodeId.{NodeId}
-use Rattle.unix_names.specs.Signals.{number_of, word_of, all_signals, signal_of}
+use Rattle.unix_names.specs.Signals.{number_of, word_of}
 use Rattle.unix_names.specs.Sets.{added}
 use Rattle.unix_names.proofs.SignalLaws.{signal_of-number_of}
 use Rattle.unix_calls.specs.declared.Arg.{Arg}
 use Rattle.unix_calls.specs.declared.Arg.TheVariants.{Zero, One, Nobody, Own, Maker, Var}
-use Rattle.script_reader.specs.declared.faults.Kind.{Kind}
-use Rattle.script_reader.specs.declared.faults.Kind.TheVariants.{UnknownWord, BadNumber}
-use Rattle.script_reader.specs.Words.{Word, Row, ◌>>=◌, found, is_same, word_at, is_digit, is_lower, is_name_byte, has_name_form, reserved, is_reserved, name, is_number, number, begins_with_digit, signal_named, signal_number, signal, is_minus_digits}
+use Rattle.script_reader.specs.Words.{Word, Row, ◌>>=◌, is_same, word_at, is_digit, is_lower, has_name_form, reserved, is_reserved, name, is_number, number, begins_with_digit, signal_named, signal_number, signal, is_minus_digits}
 use Rattle.script_reader.specs.Names.{Table, number_in}
-use Rattle.script_reader.specs.Statements.{ended, node, own_variable, script, variable, group, process, target, wanted_group, selector, changes, act, signals}
+use Rattle.script_reader.specs.Statements.{ended, node, own_variable, variable, group, process, target, wanted_group, selector, changes, act, signals}
 use Rattle.script_reader.proofs.Numbers.{is_number-decides}
 use Rattle.list_laws.proofs.Filters.{and_false}
 use Rattle.script_laws.specs.Writable.{IsTarget}
-use Rattle.script_laws.specs.Grammar.{change_words, act_word, wait_word, IsName, Naming, IsCalled, IsFor, IsArg, Targets, Wants, Selects, IsForSignal, IsForSignalNumber, AreForSet}
-use Rattle.script_laws.proofs.Words.{same_words, words_same}
+use Rattle.script_laws.specs.Grammar.{change_words, act_word, IsName, Naming, IsCalled, IsFor, IsArg, Targets, Wants, Selects, IsForSignal, IsForSignalNumber, AreForSet}
+use Rattle.script_laws.proofs.Words.{same_words}
 
 -- ---- words that differ
 pub not_same : (a b : Word) → (a ≡ b → ⊥) → is_same a b ≡ false

@@ -1,26 +1,24 @@
 -- statements that are read are statements of the grammar
-use Rattle.std.proofs.Common.{◌≡◌, ◌==◌, ◌⊎◌, inl, inr, ◌++◌, ℕ, zero, suc, ◌+◌, ◌-◌, ◌<◌, ◌≤◌, Bool, true, false, cond, List, [], ◌∷◌, length, drop, refl, sym, ap, ◌∙◌, subst, arith, Option, Some, None, Result, Ok, Err}
-use Rattle.std.specs.Prelude.{codes, nat_le, nat_lt}
-use Rattle.unix_names.specs.declared.NodeId.{NodeId}
+use Rattle.std.proofs.Common.{◌≡◌, ℕ, ◌-◌, Bool, true, false, [], ◌∷◌, drop, sym, ap, ◌∙◌, Some}
+use Rattle.std.specs.Prelude.{codes, nat_lt}
 use Rattle.unix_names.specs.declared.Act.{Act}
 use Rattle.unix_names.specs.declared.Act.TheVariants.{Default, Ignore, Catch}
 use Rattle.unix_calls.specs.declared.Arg.{Arg}
 use Rattle.unix_calls.specs.declared.Arg.TheVariants.{Zero, One, Nobody, Own, Maker, Var}
 use Rattle.unix_calls.specs.declared.Statement.{Statement}
 use Rattle.unix_calls.specs.declared.Statement.TheVariants as statement
-use Rattle.script_reader.specs.declared.faults.Kind.{Kind}
-use Rattle.script_reader.specs.declared.faults.Kind.TheVariants.{UnknownWord, UnknownScript, LaterScript}
+use Rattle.script_reader.specs.declared.faults.Kind.TheVariants.{UnknownScript, LaterScript}
 use Rattle.script_reader.specs.declared.names.Names.{Names}
 use Rattle.script_reader.specs.declared.places.Place.{Place}
 use Rattle.script_reader.specs.declared.statements.Verb.{Verb}
 use Rattle.script_reader.specs.declared.statements.Verb.TheVariants as verb
-use Rattle.script_reader.specs.Words.{Word, Row, ◌>>=◌, found, is_same, word_at, name, number, signal_number}
-use Rattle.script_reader.specs.Names.{Table, number_in}
-use Rattle.script_reader.specs.Statements.{ended, text_of, node, own_variable, script, earlier_script, process, target, wanted_group, selector, changes, act, signals, site, fork_statement, wait_statement, kill_statement, setpgid_statement, action_statement, mask_statement, migrate_statement, exec_statement, exit_statement, getpgid_statement, getsid_statement, statement_of}
+use Rattle.script_reader.specs.Words.{Word, Row, found, word_at, name, number, signal_number}
+use Rattle.script_reader.specs.Names.{number_in}
+use Rattle.script_reader.specs.Statements.{text_of, node, own_variable, script, earlier_script, process, target, wanted_group, selector, changes, act, signals, site, fork_statement, wait_statement, kill_statement, setpgid_statement, action_statement, mask_statement, migrate_statement, exec_statement, exit_statement, getpgid_statement, getsid_statement, statement_of}
 use Rattle.script_laws.specs.Grammar.{wait_word, change_words, act_word, IsName, Naming, IsCalled, IsFor, IsArg, Targets, Wants, Selects, IsForSignalNumber, AreForSet, IsSite, Spells}
 use Rattle.script_laws.proofs.Results.{Gives, next, choice, gives, fails, found_there, weaker, anything}
 use Rattle.script_laws.proofs.Understood.{number_understood, node_understood, signal_number_understood, set_understood, own_understood, process_understood, target_understood, wanted_understood, selector_understood, act_understood, TargetsAs, WantsAs, SelectsAs}
-use Rattle.script_laws.proofs.Shapes.{opened, row_1, row_2, row_more, row_3, row_rest, at_first, ended_so, number_some, name_some, signal_number_some, change_understood, site_understood}
+use Rattle.script_laws.proofs.Shapes.{row_1, row_2, row_more, row_3, row_rest, at_first, ended_so, number_some, name_some, signal_number_some, change_understood, site_understood}
 
 -- the numbers of a file's names are those of a naming
 pub record Follows (names : Names) (naming : Naming) : Type 0 where
@@ -80,9 +78,6 @@ module _ (names : Names) (naming : Naming) (follows : Follows names naming) wher
 
     abbrev Begins : Word → Type 0
     Begins word = word_at row 0 ≡ word
-
-
-
 
     fork_said : Begins (codes "fork") → Gives (fork_statement names place row) Here
     unfolding fork_statement

@@ -1,18 +1,16 @@
 -- the scripts of a part without a fault
-use Rattle.std.proofs.Common.{◌≡◌, ◌==◌, ℕ, zero, suc, ◌+◌, ◌-◌, ◌<◌, ◌≤◌, Bool, true, false, cond, List, [], ◌∷◌, length, refl, sym, ap, ◌∙◌, subst, arith, Option, Some, None, Result, Ok, Err, All}
+use Rattle.std.proofs.Common.{◌≡◌, ℕ, zero, suc, ◌+◌, ◌-◌, ◌<◌, ◌≤◌, Bool, true, false, cond, List, [], ◌∷◌, length, refl, sym, ap, ◌∙◌, subst, arith, Some, Ok, All}
 use Rattle.std.specs.Prelude.{codes, slice_get}
 use Rattle.std.proofs.lemmas.Bool.{eqb-false}
 use Rattle.std.proofs.lemmas.List.Elements.{All-nil, All-cons}
 use Rattle.unix_calls.specs.declared.World.{World}
 use Rattle.unix_calls.specs.declared.Script.{Script}
 use Rattle.unix_calls.specs.declared.world.Statement.{Statement}
-use Rattle.unix_calls.specs.Valid.{EachAt}
-use Rattle.script_reader.specs.declared.faults.Kind.{Kind}
 use Rattle.script_reader.specs.declared.names.Names.{Names}
 use Rattle.script_reader.specs.declared.places.Place.{Place}
 use Rattle.script_reader.specs.declared.lines.Item.{Item}
 use Rattle.script_reader.specs.declared.lines.Item.TheVariants as item
-use Rattle.script_reader.specs.Words.{Row, word_at}
+use Rattle.script_reader.specs.Words.{Row}
 use Rattle.script_reader.specs.Lines.{place_after}
 use Rattle.script_reader.specs.Statements.{text_of}
 use Rattle.script_reader.specs.Files.{begins_with, Told, place_behind, said, with_said, body, scripts_of}

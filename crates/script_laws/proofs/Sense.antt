@@ -1,8 +1,8 @@
 -- a part of the grammar means the world that it spells
-use Rattle.std.proofs.Common.{◌≡◌, ◌==◌, ◌++◌, ℕ, zero, suc, ◌+◌, ◌-◌, ◌<◌, ◌≤◌, Bool, true, false, cond, List, [], ◌∷◌, length, length-append, take, refl, sym, ap, ◌∙◌, subst, arith, Option, Some, None, Result, Ok, Err, All, append_assoc}
-use Rattle.std.specs.Prelude.{codes, slice_get, is_some, IfSome}
+use Rattle.std.proofs.Common.{◌≡◌, ◌++◌, ℕ, suc, ◌+◌, ◌-◌, ◌<◌, ◌≤◌, Bool, true, false, cond, List, [], ◌∷◌, length, length-append, take, refl, sym, ap, ◌∙◌, subst, arith, Option, Some, None, Ok, All, append_assoc}
+use Rattle.std.specs.Prelude.{codes, slice_get, IfSome}
 use Rattle.std.proofs.lemmas.List.{append-nil, take_at}
-use Rattle.std.proofs.lemmas.List.Elements.{All-nil, All-head, All-tail}
+use Rattle.std.proofs.lemmas.List.Elements.{All-head, All-tail}
 use Rattle.std.proofs.lemmas.Option.{slice_get_within}
 use Rattle.unix_calls.specs.declared.World.{World}
 use Rattle.unix_calls.specs.declared.Script.{Script}
@@ -13,20 +13,18 @@ use Rattle.unix_calls.specs.Work.{works, total_work}
 use Rattle.script_reader.specs.declared.names.Names.{Names}
 use Rattle.script_reader.specs.declared.places.Place.{Place}
 use Rattle.script_reader.specs.declared.lines.Head.TheVariants as head
-use Rattle.script_reader.specs.declared.lines.Item.{Item}
 use Rattle.script_reader.specs.declared.lines.Item.TheVariants as item
 use Rattle.script_reader.specs.Words.{Word, Row, word_at}
-use Rattle.script_reader.specs.Names.{number_in}
 use Rattle.script_reader.specs.Lines.{is_skipped, is_numbered, script_line, end_line, statement_line, start_line, later_line, read_row, place_after, placed_after}
 use Rattle.script_reader.specs.Statements.{ended, text_of}
-use Rattle.script_reader.specs.Files.{begins_with, Told, place_behind, body, scripts_of, start_of, with_start, is_little, judged}
+use Rattle.script_reader.specs.Files.{Told, place_behind, body, scripts_of, start_of, with_start, is_little, judged}
 use Rattle.list_laws.proofs.Finding.{same_number}
 use Rattle.script_laws.specs.Grammar.{Naming, IsCalled, Spells, SpellsStart, Lines, ends, skips, starts, begins, says, closes}
 use Rattle.script_laws.proofs.Words.{skipped_script, begins_so, verb_script, script_word}
 use Rattle.script_laws.proofs.Reading.{not_equal, name_read}
 use Rattle.script_laws.proofs.Spoken.{verb_of, HasNaming, HasStarts, statement_read, first_word, start_read, line_of}
-use Rattle.script_laws.proofs.Heads.{IsHead, verb_head, script_head, start_head, end_head, row_read, row_place, verb_some}
-use Rattle.script_laws.proofs.Told.{row_tells, row_told, Means, more, little_first, statements_of, Fits, Stands}
+use Rattle.script_laws.proofs.Heads.{verb_head, script_head, start_head, end_head, row_read, row_place, verb_some}
+use Rattle.script_laws.proofs.Told.{row_tells, row_told, Means, more, little_first, statements_of, Stands}
 
 first_is : (word : Word) (row : Row) → word_at (word ∷ row) 0 ≡ word
 unfolding word_at

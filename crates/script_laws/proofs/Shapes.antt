@@ -1,29 +1,17 @@
 -- statements that are read are statements of the grammar
-use Rattle.std.proofs.Common.{◌≡◌, ◌==◌, ◌⊎◌, inl, inr, ◌++◌, ℕ, zero, suc, ◌+◌, ◌-◌, ◌<◌, ◌≤◌, Bool, true, false, cond, List, [], ◌∷◌, length, drop, refl, sym, ap, ◌∙◌, subst, arith, Option, Some, None, Result, Ok, Err}
-use Rattle.std.specs.Prelude.{codes, nat_le, nat_lt}
-use Rattle.std.specs.List.{AllZip}
+use Rattle.std.proofs.Common.{◌≡◌, inl, inr, ℕ, zero, suc, ◌≤◌, Bool, true, false, [], ◌∷◌, length, drop, refl, sym, ap, ◌∙◌, subst, arith, Some, None}
+use Rattle.std.specs.Prelude.{codes, nat_le}
 use Rattle.std.proofs.lemmas.Bool.{leb-true}
 use Rattle.unix_names.specs.declared.Signal.{Signal}
 use Rattle.unix_names.specs.declared.Signal.TheVariants.{Hup}
-use Rattle.unix_names.specs.declared.NodeId.{NodeId}
 use Rattle.unix_names.specs.Signals.{word_of}
-use Rattle.unix_calls.specs.declared.Arg.{Arg}
-use Rattle.unix_calls.specs.declared.Arg.TheVariants.{Zero, One, Nobody, Own, Maker, Var}
-use Rattle.unix_calls.specs.declared.Statement.{Statement}
-use Rattle.unix_calls.specs.declared.Statement.TheVariants as statement
-use Rattle.script_reader.specs.declared.faults.Kind.{Kind}
-use Rattle.script_reader.specs.declared.faults.Kind.TheVariants.{UnknownWord, UnknownScript, LaterScript}
-use Rattle.script_reader.specs.declared.names.Names.{Names}
-use Rattle.script_reader.specs.declared.places.Place.{Place}
-use Rattle.script_reader.specs.declared.statements.Verb.{Verb}
-use Rattle.script_reader.specs.declared.statements.Verb.TheVariants as verb
-use Rattle.script_reader.specs.Words.{Word, Row, ◌>>=◌, found, is_same, word_at, name, number, signal_number}
-use Rattle.script_reader.specs.Names.{Table, number_in}
-use Rattle.script_reader.specs.Statements.{ended, text_of, node, own_variable, script, earlier_script, process, target, wanted_group, selector, changes, act, signals, site, fork_statement, wait_statement, kill_statement, setpgid_statement, action_statement, mask_statement, migrate_statement, exec_statement, exit_statement, getpgid_statement, getsid_statement, statement_of}
-use Rattle.script_laws.specs.Grammar.{wait_word, change_words, act_word, IsName, Naming, IsCalled, IsFor, IsArg, Targets, Wants, Selects, IsForSignalNumber, AreForSet, IsSite, Spells}
-use Rattle.script_laws.proofs.Results.{Gives, next, choice, gives, fails, ended_here, found_there, weaker, anything, next_ok, then_ok, found_ok, ended_ok}
+use Rattle.script_reader.specs.declared.faults.Kind.TheVariants.{UnknownWord}
+use Rattle.script_reader.specs.Words.{Word, Row, is_same, word_at}
+use Rattle.script_reader.specs.Statements.{ended, node, changes, site}
+use Rattle.script_laws.specs.Grammar.{change_words, IsName, IsFor, IsForSignalNumber, IsSite}
+use Rattle.script_laws.proofs.Results.{Gives, next, choice, gives, fails}
 use Rattle.script_laws.proofs.Words.{same_words}
-use Rattle.script_laws.proofs.Understood.{number_understood, node_understood, signal_number_understood, set_understood, own_understood, process_understood, target_understood, wanted_understood, selector_understood, act_understood}
+use Rattle.script_laws.proofs.Understood.{node_understood}
 
 -- ---- rows by their words
 pub opened : (row : Row) (k : ℕ) → (word_at row k ≡ [] → ⊥) → drop k row ≡ word_at row k ∷ drop (suc k) row

@@ -1,27 +1,25 @@
 -- statements and starts of the grammar are read as what they spell
-use Rattle.std.proofs.Common.{◌≡◌, ◌==◌, ◌&&◌, ◌⊎◌, inl, inr, ◌++◌, ℕ, ◌+◌, ◌-◌, ◌<◌, ◌≤◌, Bool, true, false, cond, List, [], ◌∷◌, length, refl, sym, ap, ◌∙◌, subst, arith, Option, Some, None, Result, Ok, Err}
-use Rattle.std.specs.Prelude.{codes, nat_le, nat_lt, slice_get, IfSome}
-use Rattle.std.proofs.lemmas.Bool.{lt-ltb, eq-eqb}
+use Rattle.std.proofs.Common.{◌≡◌, inl, inr, ◌++◌, ℕ, ◌-◌, ◌<◌, true, false, List, ◌∷◌, refl, sym, subst, Option, Some, None, Ok}
+use Rattle.std.specs.Prelude.{codes, slice_get, IfSome}
+use Rattle.std.proofs.lemmas.Bool.{lt-ltb}
 use Rattle.unix_names.specs.declared.NodeId.{NodeId}
 use Rattle.unix_calls.specs.declared.World.{World}
 use Rattle.unix_calls.specs.declared.Start.{Start}
 use Rattle.unix_calls.specs.declared.Statement.{Statement}
 use Rattle.unix_calls.specs.declared.Statement.TheVariants as statement
 use Rattle.unix_calls.specs.Valid.{IsNode, IsStatement}
-use Rattle.script_reader.specs.declared.faults.Kind.{Kind}
 use Rattle.script_reader.specs.declared.names.Names.{Names}
 use Rattle.script_reader.specs.declared.places.Place.{Place}
 use Rattle.script_reader.specs.declared.statements.Verb.{Verb}
 use Rattle.script_reader.specs.declared.statements.Verb.TheVariants as verb
-use Rattle.script_reader.specs.declared.lines.Item.{Item}
 use Rattle.script_reader.specs.declared.lines.Item.TheVariants as item
 use Rattle.script_reader.specs.declared.lines.StartLine.{StartLine}
-use Rattle.script_reader.specs.Words.{Word, Row, ◌>>=◌, is_same, word_at, name, found}
-use Rattle.script_reader.specs.Names.{Table, number_in}
-use Rattle.script_reader.specs.Statements.{ended, node, own_variable, script, earlier_script, process, target, site, fork_statement, wait_statement, kill_statement, setpgid_statement, action_statement, mask_statement, migrate_statement, exec_statement, exit_statement, getpgid_statement, getsid_statement, statement_of, text_of}
+use Rattle.script_reader.specs.Words.{Word, Row, is_same, word_at}
+use Rattle.script_reader.specs.Names.{number_in}
+use Rattle.script_reader.specs.Statements.{ended, node, script, earlier_script, site, fork_statement, wait_statement, kill_statement, setpgid_statement, action_statement, mask_statement, migrate_statement, exec_statement, exit_statement, getpgid_statement, getsid_statement, statement_of, text_of}
 use Rattle.script_reader.specs.Lines.{is_numbered, start_variable, user, earlier_start, joined, start_words}
 use Rattle.list_laws.proofs.Finding.{same_number}
-use Rattle.script_laws.specs.Grammar.{change_words, act_word, wait_word, IsName, Naming, IsCalled, IsFor, IsArg, IsSite, Spells, IsUser, Joins, SpellsStart}
+use Rattle.script_laws.specs.Grammar.{Naming, IsCalled, IsSite, Spells, IsUser, Joins, SpellsStart}
 use Rattle.script_laws.proofs.Reading.{Agrees, name_read, number_read, node_read, signal_number_read, set_read, own_read, process_read, target_read, wanted_read, selector_read, act_read, changes_read}
 
 -- the word that a statement begins with

@@ -1,33 +1,31 @@
 -- the starts of a part without a fault
-use Rattle.std.proofs.Common.{◌≡◌, ◌≢◌, ◌==◌, ◌⊎◌, inl, inr, ℕ, zero, suc, ◌+◌, ◌-◌, ◌<◌, ◌≤◌, ◌^◌, Bool, true, false, cond, ◌&&◌, List, [], ◌∷◌, ◌++◌, length, length-append, take, refl, sym, ap, ◌∙◌, subst, arith, Option, Some, None, Result, Ok, Err, All}
+use Rattle.std.proofs.Common.{◌≡◌, ◌≢◌, ◌==◌, ◌⊎◌, inl, inr, ℕ, zero, suc, ◌+◌, ◌<◌, ◌≤◌, true, false, List, [], ◌∷◌, ◌++◌, length, length-append, take, refl, sym, ap, ◌∙◌, subst, arith, Option, Some, None, Result, Ok, All}
 use Rattle.std.specs.Prelude.{codes, slice_get, get_or, nat_le, nat_lt, IfSome}
 use Rattle.std.proofs.lemmas.Bool.{eqb-true, eqb-false, leb-true, ltb-true, and_parts}
 use Rattle.std.proofs.lemmas.List.{take-append-le, take_all}
-use Rattle.std.proofs.lemmas.List.Elements.{All-nil, All-push}
-use Rattle.std.proofs.lemmas.Option.{slice_get-get_or, slice_get_within}
-use Rattle.unix_names.specs.declared.NodeId.{NodeId}
+use Rattle.std.proofs.lemmas.List.Elements.{All-push}
+use Rattle.std.proofs.lemmas.Option.{slice_get-get_or}
 use Rattle.unix_calls.specs.declared.World.{World}
 use Rattle.unix_calls.specs.declared.Start.{Start}
 use Rattle.unix_calls.specs.declared.Work.{Work}
-use Rattle.unix_calls.specs.Valid.{EachAt, IsNode, IsStart, IsLittleWork, start_pid}
+use Rattle.unix_calls.specs.Valid.{EachAt, IsStart, IsLittleWork}
 use Rattle.unix_calls.specs.Work.{total_work}
 use Rattle.script_reader.specs.declared.faults.Kind.{Kind}
 use Rattle.script_reader.specs.declared.faults.Kind.TheVariants.{UnknownWord, UnknownScript, DoubleName}
 use Rattle.script_reader.specs.declared.names.Names.{Names}
 use Rattle.script_reader.specs.declared.places.Place.{Place}
 use Rattle.script_reader.specs.declared.lines.Item.{Item}
-use Rattle.script_reader.specs.declared.lines.Item.TheVariants as item
 use Rattle.script_reader.specs.declared.lines.StartLine.{StartLine}
-use Rattle.script_reader.specs.Words.{Word, Row, ◌>>=◌, found, is_same, word_at, name, number}
+use Rattle.script_reader.specs.Words.{Word, Row, found, is_same, word_at, name, number}
 use Rattle.script_reader.specs.Names.{Table, number_in}
-use Rattle.script_reader.specs.Statements.{ended, node, script}
+use Rattle.script_reader.specs.Statements.{script}
 use Rattle.script_reader.specs.Lines.{is_numbered, start_variable, user, earlier_start, joined, place_after}
 use Rattle.script_reader.specs.Files.{Told, place_behind, start_of, with_start, is_little, judged}
-use Rattle.script_laws.proofs.Results.{Gives, next, choice, gives, fails, ended_here, found_there, weaker, anything, next_ok, then_ok, else_ok, found_ok}
-use Rattle.script_laws.proofs.Statements.{IsSmall, AreVariables, number_fits, node_fits}
+use Rattle.script_laws.proofs.Results.{Gives, next, choice, gives, fails, ended_here, anything, next_ok, then_ok, found_ok}
+use Rattle.script_laws.proofs.Statements.{IsSmall, number_fits, node_fits}
 use Rattle.script_laws.proofs.Tables.{AreBelow, IsListed}
 use Rattle.script_laws.proofs.Lines.{IsStartLine, Step, silent, opens, begins, ends, says, starts}
-use Rattle.script_laws.proofs.Walks.{starts_now, IsLittle, Judged, judged_next, Walk, nodes_stay}
+use Rattle.script_laws.proofs.Walks.{starts_now, IsLittle, judged_next, Walk, nodes_stay}
 
 -- ---- words
 pub numbered_here : (t : Table) (word : Word) (at : ℕ) → is_numbered t word at ≡ true → number_in t word ≡ Some at
@@ -81,7 +79,7 @@ joined_fits names place count row =
     next (earlier_start names place (word_at row (count + 1))) _ _ (IsJoined place) (earlier_fits names place (word_at row (count + 1))) (λ n h. ended_here row (count + 2) (Some n) (IsJoined place) h)) (λ _.
     fails UnknownWord (IsJoined place)))
 
-item_same : (a b : Item) → ◌≡◌ {A = Result Item Kind} (Ok a) (Ok b) → a ≡ b
+pub item_same : (a b : Item) → ◌≡◌ {A = Result Item Kind} (Ok a) (Ok b) → a ≡ b
 item_same a b e = cc
 
 -- ---- one element more

@@ -1,11 +1,9 @@
 -- what a statement is that is read where it stands
-use Rattle.std.proofs.Common.{◌≡◌, ℕ, ◌<◌, ◌^◌, ◌-◌, Bool, true, false, ◌&&◌, ltb, List, [], ◌∷◌, drop, length, refl, sym, ap, ◌∙◌, subst, arith, Option, Some, None, Result, Ok, Err}
-use Rattle.std.specs.Prelude.{IfSome, IsSome, nat_le, nat_lt, ◌==◌, codes, cond}
+use Rattle.std.proofs.Common.{◌≡◌, ℕ, ◌<◌, ◌^◌, ◌-◌, Bool, true, false, ◌&&◌, ltb, [], ◌∷◌, drop, length, refl, subst, arith, Option, Some, None, Result, Ok, Err}
+use Rattle.std.specs.Prelude.{IfSome, nat_le, nat_lt, ◌==◌, codes, cond}
 use Rattle.std.specs.List.{list_all}
 use Rattle.std.specs.Str.Parse.{digits_value}
 use Rattle.std.proofs.lemmas.Bool.{ltb-true, and_parts}
-use Rattle.unix_names.specs.declared.signals.Signal.{Signal}
-use Rattle.unix_names.specs.declared.states.Act.{Act}
 use Rattle.unix_names.specs.declared.NodeId.{NodeId}
 use Rattle.unix_names.specs.Signals.{number_of}
 use Rattle.unix_names.specs.Sets.{IsSignals, added}
@@ -24,7 +22,7 @@ use Rattle.script_reader.specs.declared.names.Names.{Names}
 use Rattle.script_reader.specs.declared.places.Place.{Place}
 use Rattle.script_reader.specs.Words.{Word, Row, ◌>>=◌, found, is_same, word_at, name, number, is_number, is_digit, begins_with_digit, signal_number, signal_named, signal, is_minus_digits}
 use Rattle.script_reader.specs.Names.{Table, number_in}
-use Rattle.script_reader.specs.Statements.{ended, node, own_variable, script, earlier_script, variable, group, process, target, wanted_group, selector, changes, act, signals, site, fork_statement, wait_statement, kill_statement, setpgid_statement, action_statement, mask_statement, migrate_statement, exec_statement, exit_statement, getpgid_statement, getsid_statement, statement_of}
+use Rattle.script_reader.specs.Statements.{node, own_variable, script, earlier_script, variable, group, process, target, wanted_group, selector, changes, act, signals, site, fork_statement, wait_statement, kill_statement, setpgid_statement, action_statement, mask_statement, migrate_statement, exec_statement, exit_statement, getpgid_statement, getsid_statement, statement_of}
 use Rattle.script_laws.specs.Writable.{IsTarget, IsWanted, IsSelector, IsWrittenStatement}
 use Rattle.script_laws.proofs.Results.{Gives, next, choice, gives, fails, ended_here, found_there, weaker, anything}
 

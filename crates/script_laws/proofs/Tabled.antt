@@ -1,17 +1,15 @@
 -- names that a part without a fault gives
-use Rattle.std.proofs.Common.{◌≡◌, ◌==◌, ◌⊎◌, inl, inr, ◌++◌, ℕ, zero, suc, ◌+◌, ◌<◌, ◌≤◌, Bool, true, false, cond, List, [], ◌∷◌, length, refl, sym, ap, ◌∙◌, subst, arith, Option, Some, None, Result, Ok, Err, All}
-use Rattle.std.specs.Prelude.{codes, slice_get, map, filter, is_some}
+use Rattle.std.proofs.Common.{◌≡◌, ◌⊎◌, inl, inr, ◌++◌, ℕ, zero, suc, ◌+◌, ◌<◌, Bool, true, false, cond, List, [], ◌∷◌, length, refl, sym, ap, ◌∙◌, subst, arith, Option, Some, None, Ok, All}
+use Rattle.std.specs.Prelude.{codes, slice_get, map, is_some}
 use Rattle.std.proofs.lemmas.List.{map-append, length-map}
 use Rattle.std.proofs.lemmas.List.Elements.{All-nil, All-cons}
 use Rattle.unix_calls.specs.declared.Statement.{Statement}
-use Rattle.script_reader.specs.declared.faults.Kind.{Kind}
-use Rattle.script_reader.specs.declared.faults.Kind.TheVariants.{UnknownWord}
 use Rattle.script_reader.specs.declared.names.Names.{Names}
 use Rattle.script_reader.specs.declared.places.Place.{Place}
 use Rattle.script_reader.specs.declared.statements.Verb.{Verb}
 use Rattle.script_reader.specs.declared.statements.Verb.TheVariants as verb
 use Rattle.script_reader.specs.declared.lines.Item.{Item}
-use Rattle.script_reader.specs.Words.{Word, Row, is_same, word_at, name}
+use Rattle.script_reader.specs.Words.{Word, Row, word_at, name}
 use Rattle.script_reader.specs.Names.{Table, number_in, noted}
 use Rattle.script_reader.specs.Statements.{text_of, own_variable, fork_statement, statement_of}
 use Rattle.script_reader.specs.Lines.{place_after, start_variable}
@@ -182,7 +180,7 @@ fork_named names place row i now (says v s k bg w o c st e n) b = said_named nam
 fork_named names place row i now (starts s k bg w c o st e n) b = no_true _ (begins_so row (codes "fork") (codes "start") false w fork_word.3) b
 
 -- ---- scripts are numbered in order
-numbers_step : (row : Row) (rows : List Row) (b : Bool) → begins_with (codes "script") row ≡ b → words_behind (codes "script") 1 (row ∷ rows) ≡ cond b (word_at row 1 ∷ words_behind (codes "script") 1 rows) (words_behind (codes "script") 1 rows)
+pub numbers_step : (row : Row) (rows : List Row) (b : Bool) → begins_with (codes "script") row ≡ b → words_behind (codes "script") 1 (row ∷ rows) ≡ cond b (word_at row 1 ∷ words_behind (codes "script") 1 rows) (words_behind (codes "script") 1 rows)
 unfolding words_behind
 numbers_step row rows true e = rw e refl
 numbers_step row rows false e = rw e refl

@@ -1,40 +1,27 @@
 -- lines of the grammar mean what they spell
-use Rattle.std.proofs.Common.{◌≡◌, ◌==◌, ◌++◌, ℕ, zero, suc, ◌+◌, ◌-◌, ◌<◌, ◌≤◌, Bool, true, false, cond, List, [], ◌∷◌, length, length-append, take, refl, sym, ap, ◌∙◌, subst, arith, Option, Some, None, Result, Ok, Err, All, append_assoc}
-use Rattle.std.specs.Prelude.{codes, slice_get, map, fold, is_some, nat_le}
+use Rattle.std.proofs.Common.{◌≡◌, ◌++◌, ℕ, ◌+◌, ◌-◌, ◌≤◌, true, false, cond, List, [], ◌∷◌, length, refl, ap, ◌∙◌, subst, arith, Option, Some, None, Ok, All}
+use Rattle.std.specs.Prelude.{codes, slice_get, map, fold, is_some}
 use Rattle.std.specs.Str.{is_utf8}
 use Rattle.std.proofs.lemmas.Bool.{le-leb}
-use Rattle.std.proofs.lemmas.List.{append-nil, take-append-le, take_all}
-use Rattle.std.proofs.lemmas.List.Elements.{All-nil, All-head, All-tail}
+use Rattle.std.proofs.lemmas.List.Elements.{All-head, All-tail}
 use Rattle.byte_ends.specs.Text.{words}
 use Rattle.unix_calls.specs.declared.World.{World}
 use Rattle.unix_calls.specs.declared.Script.{Script}
 use Rattle.unix_calls.specs.declared.Start.{Start}
 use Rattle.unix_calls.specs.declared.Work.{Work}
 use Rattle.unix_calls.specs.declared.Statement.{Statement}
-use Rattle.unix_calls.specs.Valid.{IsStatement, IsStart, IsLittleWork, IsValid}
-use Rattle.unix_calls.specs.Work.{work, together, work_of, works, total_work}
-use Rattle.script_reader.specs.declared.faults.Kind.{Kind}
-use Rattle.script_reader.specs.declared.faults.Kind.TheVariants.{NotUtf8}
-use Rattle.script_reader.specs.declared.faults.Fault.{Fault}
+use Rattle.unix_calls.specs.Valid.{IsStatement, IsLittleWork}
+use Rattle.unix_calls.specs.Work.{work, together, work_of, total_work}
 use Rattle.script_reader.specs.declared.names.Names.{Names}
 use Rattle.script_reader.specs.declared.places.Place.{Place}
-use Rattle.script_reader.specs.declared.lines.Head.TheVariants as head
 use Rattle.script_reader.specs.declared.lines.Item.{Item}
 use Rattle.script_reader.specs.declared.lines.Item.TheVariants as item
-use Rattle.script_reader.specs.declared.lines.StartLine.{StartLine}
-use Rattle.script_reader.specs.Words.{Word, Row, word_at}
-use Rattle.script_reader.specs.Names.{number_in}
-use Rattle.script_reader.specs.Lines.{is_skipped, is_numbered, script_line, end_line, statement_line, start_line, later_line, read_row, read_line, place_after, placed_after}
-use Rattle.script_reader.specs.Statements.{ended, text_of}
-use Rattle.script_reader.specs.Files.{begins_with, Told, tells, place_behind, said, with_said, body, scripts_of, start_of, with_start, is_little, judged}
-use Rattle.list_laws.proofs.Finding.{same_number}
-use Rattle.script_laws.specs.Grammar.{Naming, IsCalled, Spells, SpellsStart, Lines, ends, skips, starts, begins, says, closes}
-use Rattle.script_laws.proofs.Words.{skipped_script, begins_so, verb_script, script_word}
+use Rattle.script_reader.specs.Words.{Word, Row}
+use Rattle.script_reader.specs.Lines.{read_row, read_line, place_after}
+use Rattle.script_reader.specs.Files.{begins_with, Told, tells, place_behind, said, with_said, body, scripts_of, is_little, judged}
+use Rattle.script_laws.specs.Grammar.{Naming, IsCalled}
 use Rattle.script_laws.proofs.Walks.{starts_now, IsLittle}
 use Rattle.script_laws.proofs.Scripts.{is_beginning, body_is, scripts_are}
-use Rattle.script_laws.proofs.Reading.{not_equal, name_read}
-use Rattle.script_laws.proofs.Spoken.{verb_of, HasNaming, HasStarts, statement_read, first_word, start_read, line_of}
-use Rattle.script_laws.proofs.Heads.{IsHead, verb_head, script_head, start_head, end_head, row_read, row_place, verb_some}
 
 -- ---- rows in the place of lines
 abbrev pub row_tells : Names → Place → List Row → List Told

@@ -1,14 +1,11 @@
 -- words that are read are words of the grammar
-use Rattle.std.proofs.Common.{◌≡◌, ◌==◌, ◌&&◌, ◌||◌, ◌⊎◌, inl, inr, ℕ, suc, ◌+◌, ◌<◌, ◌≤◌, ◌^◌, Bool, true, false, cond, not, ltb, List, [], ◌∷◌, length, drop, refl, sym, ap, ◌∙◌, subst, arith, Option, Some, None, Result, Ok, Err, All}
-use Rattle.std.specs.Prelude.{codes, slice_get, nat_le, nat_lt, fold}
-use Rattle.std.specs.List.{list_any, list_all, AllZip, find}
+use Rattle.std.proofs.Common.{◌≡◌, ◌==◌, ◌&&◌, inl, inr, ℕ, Bool, true, false, cond, not, List, [], ◌∷◌, length, refl, sym, ap, ◌∙◌, Some, Result, Ok, Err, All}
+use Rattle.std.specs.Prelude.{codes, nat_le, nat_lt, fold}
+use Rattle.std.specs.List.{list_any, list_all, AllZip}
 use Rattle.std.specs.Str.Parse.{digits_value}
 use Rattle.std.proofs.lemmas.Bool.{leb-true, and_parts, eqb-true, or_parts}
 use Rattle.std.proofs.lemmas.List.Elements.{All-nil, All-cons}
-use Rattle.byte_ends.specs.Text.{IsNumber}
 use Rattle.unix_names.specs.declared.Signal.{Signal}
-use Rattle.unix_names.specs.declared.Signal.TheVariants.{Hup}
-use Rattle.unix_names.specs.declared.Act.{Act}
 use Rattle.unix_names.specs.declared.Act.TheVariants.{Default, Ignore, Catch}
 use Rattle.unix_names.specs.Signals.{number_of, word_of, all_signals, signal_of}
 use Rattle.unix_names.specs.Sets.{added}
@@ -17,14 +14,13 @@ use Rattle.unix_calls.specs.declared.Arg.{Arg}
 use Rattle.unix_calls.specs.declared.Arg.TheVariants.{Zero, One, Nobody, Own, Maker, Var}
 use Rattle.script_reader.specs.declared.faults.Kind.{Kind}
 use Rattle.script_reader.specs.declared.faults.Kind.TheVariants.{UnknownWord, BadNumber, LongName, NoSuchNode}
-use Rattle.script_reader.specs.Words.{Word, Row, ◌>>=◌, found, is_same, word_at, is_digit, is_lower, is_name_byte, has_name_form, reserved, is_reserved, name, is_number, number, begins_with_digit, signal_named, signal_number, signal, is_minus_digits}
+use Rattle.script_reader.specs.Words.{Word, Row, ◌>>=◌, found, is_same, is_lower, is_name_byte, has_name_form, reserved, is_reserved, name, is_number, number, begins_with_digit, signal_named, signal_number, signal, is_minus_digits}
 use Rattle.script_reader.specs.Names.{Table, number_in}
-use Rattle.script_reader.specs.Statements.{ended, node, own_variable, script, variable, group, process, target, wanted_group, selector, act, signals}
+use Rattle.script_reader.specs.Statements.{node, own_variable, variable, group, process, target, wanted_group, selector, act, signals}
 use Rattle.script_reader.proofs.Numbers.{is_number-decides}
-use Rattle.list_laws.proofs.Filters.{or_true}
 use Rattle.script_laws.specs.Writable.{IsTarget}
 use Rattle.script_laws.specs.Grammar.{act_word, IsName, Naming, IsCalled, IsFor, IsArg, Targets, Wants, Selects, IsForSignal, IsForSignalNumber, AreForSet}
-use Rattle.script_laws.proofs.Results.{Gives, next, choice, gives, fails, ended_here, found_there, weaker, anything, next_ok, then_ok, found_ok}
+use Rattle.script_laws.proofs.Results.{Gives, next, choice, gives, fails, found_there, weaker, anything, then_ok}
 use Rattle.script_laws.proofs.Words.{same_words, words_same}
 
 -- ---- names

@@ -1,15 +1,8 @@
 -- variables are numbered by their first fork lines, and then by their start lines
-use Rattle.std.proofs.Common.{◌≡◌, ◌==◌, ◌++◌, ℕ, ◌+◌, ◌<◌, ◌≤◌, Bool, true, false, cond, List, [], ◌∷◌, length, drop, refl, sym, ap, ◌∙◌, subst, arith, Option, Some, None, Result, Ok, Err, append_assoc}
-use Rattle.std.specs.Prelude.{codes, map, filter}
-use Rattle.std.specs.List.{flat_map, filter_map, cons_option}
-use Rattle.std.proofs.lemmas.List.{append-nil, map-append}
-use Rattle.byte_ends.specs.Text.{words}
-use Rattle.unix_calls.specs.declared.Script.{Script}
-use Rattle.unix_calls.specs.declared.Start.{Start}
-use Rattle.unix_calls.specs.declared.Work.{Work}
+use Rattle.std.proofs.Common.{◌≡◌, ℕ, Bool, true, false, drop, refl, sym, subst, Option, Some, None, Ok}
+use Rattle.std.specs.Prelude.{codes}
 use Rattle.unix_calls.specs.declared.world.Statement.{Statement}
 use Rattle.unix_calls.specs.declared.world.Statement.TheVariants as statement
-use Rattle.script_reader.specs.declared.faults.Kind.{Kind}
 use Rattle.script_reader.specs.declared.faults.Kind.TheVariants.{UnknownWord}
 use Rattle.script_reader.specs.declared.names.Names.{Names}
 use Rattle.script_reader.specs.declared.places.Place.{Place}
@@ -17,19 +10,15 @@ use Rattle.script_reader.specs.declared.statements.Verb.{Verb}
 use Rattle.script_reader.specs.declared.statements.Verb.TheVariants as verb
 use Rattle.script_reader.specs.declared.lines.Item.{Item}
 use Rattle.script_reader.specs.declared.lines.Item.TheVariants as item
-use Rattle.script_reader.specs.Words.{Word, Row, ◌>>=◌, found, is_same, word_at, name, number, signal_number}
+use Rattle.script_reader.specs.Words.{Word, Row, is_same, word_at, name, number, signal_number}
 use Rattle.script_reader.specs.Names.{Table, number_in}
-use Rattle.script_reader.specs.Statements.{ended, text_of, node, own_variable, process, target, wanted_group, selector, changes, act, signals, earlier_script, site, fork_statement, wait_statement, kill_statement, setpgid_statement, action_statement, mask_statement, migrate_statement, exec_statement, exit_statement, getpgid_statement, getsid_statement, statement_of}
-use Rattle.script_reader.specs.Lines.{read_line, place_after}
-use Rattle.script_reader.specs.Files.{begins_with, words_behind, Told, tells, said, with_said, body, scripts_of, start_of, with_start, judged}
-use Rattle.script_laws.specs.Writable.{assigned, assigned_by}
-use Rattle.script_laws.proofs.Results.{Gives, next, choice, gives, ended_here, anything, next_ok, found_ok}
-use Rattle.script_laws.proofs.Words.{skipped_start, skipped_fork, begins_so, verb_start, verb_fork, start_word, fork_word}
+use Rattle.script_reader.specs.Statements.{text_of, node, own_variable, process, target, wanted_group, selector, changes, act, signals, earlier_script, site, fork_statement, wait_statement, kill_statement, setpgid_statement, action_statement, mask_statement, migrate_statement, exec_statement, exit_statement, getpgid_statement, getsid_statement, statement_of}
+use Rattle.script_reader.specs.Files.{begins_with}
+use Rattle.script_laws.specs.Writable.{assigned}
+use Rattle.script_laws.proofs.Results.{Gives, next, gives, ended_here, anything, next_ok, found_ok}
+use Rattle.script_laws.proofs.Words.{skipped_start, skipped_fork, begins_so, verb_start, start_word, fork_word}
 use Rattle.script_laws.proofs.Lines.{Step, silent, opens, begins, ends, says, starts}
-use Rattle.script_laws.proofs.Walks.{starts_now, judged_next, Walk}
-use Rattle.script_laws.proofs.Scripts.{is_beginning, script_marked, body_is, scripts_are}
 use Rattle.script_laws.proofs.Starts.{variable_there}
-use Rattle.script_laws.proofs.Orders.{AreNumbers}
 
 -- ---- statements that assign no variable
 abbrev IsNoFork : Statement → Type 0

@@ -1,15 +1,9 @@
 -- the lines of a part without a fault, one after the other
-use Rattle.std.proofs.Common.{◌≡◌, ◌≢◌, ◌==◌, ℕ, ◌+◌, ◌-◌, ◌<◌, ◌≤◌, Bool, true, false, cond, List, [], ◌∷◌, ◌++◌, length, refl, sym, ap, ◌∙◌, subst, arith, Option, Some, None, Result, Ok, Err, All}
-use Rattle.std.specs.Prelude.{codes, slice_get}
+use Rattle.std.proofs.Common.{◌≡◌, ℕ, ◌+◌, ◌≤◌, Bool, true, false, cond, List, [], ◌∷◌, refl, sym, ap, ◌∙◌, subst, Result, Ok, Err}
 use Rattle.std.specs.Str.{is_utf8}
-use Rattle.std.proofs.lemmas.Bool.{eqb-false}
-use Rattle.std.proofs.lemmas.List.Elements.{All-nil, All-cons}
 use Rattle.byte_ends.specs.Text.{words}
-use Rattle.unix_calls.specs.declared.World.{World}
-use Rattle.unix_calls.specs.declared.Script.{Script}
 use Rattle.unix_calls.specs.declared.Start.{Start}
 use Rattle.unix_calls.specs.declared.Work.{Work}
-use Rattle.unix_calls.specs.declared.world.Statement.{Statement}
 use Rattle.unix_calls.specs.Work.{total_work}
 use Rattle.script_reader.specs.declared.faults.Kind.{Kind}
 use Rattle.script_reader.specs.declared.faults.Kind.TheVariants.{NotUtf8, TooMuchWork}
@@ -18,14 +12,11 @@ use Rattle.script_reader.specs.declared.names.Names.{Names}
 use Rattle.script_reader.specs.declared.places.Place.{Place}
 use Rattle.script_reader.specs.declared.lines.Item.{Item}
 use Rattle.script_reader.specs.declared.lines.Item.TheVariants as item
-use Rattle.script_reader.specs.declared.lines.StartLine.{StartLine}
-use Rattle.script_reader.specs.Words.{Word, Row, word_at}
+use Rattle.script_reader.specs.Words.{Row}
 use Rattle.script_reader.specs.Lines.{read_row, read_line, place_after}
-use Rattle.script_reader.specs.Files.{begins_with, Told, tells, place_behind, with_said, body, scripts_of, with_start, is_little, fault_at, judged}
+use Rattle.script_reader.specs.Files.{Told, tells, place_behind, with_start, is_little, fault_at, judged}
 use Rattle.script_laws.proofs.Results.{then_ok}
-use Rattle.script_laws.proofs.Statements.{AreVariables, IsRead, statement_fits}
-use Rattle.script_laws.proofs.Words.{skipped_script, skipped_start, begins_so, verb_script, verb_start, script_word, start_word}
-use Rattle.script_laws.proofs.Lines.{IsStartLine, Step, silent, opens, begins, ends, says, starts, step}
+use Rattle.script_laws.proofs.Lines.{Step, silent, opens, begins, ends, says, starts, step}
 
 -- ---- lines that were judged
 abbrev pub AllRead : List Told → Type 0

@@ -1,25 +1,20 @@
 -- a part of the grammar is read as the world that it spells
-use Rattle.std.proofs.Common.{◌≡◌, ◌==◌, ◌++◌, ◌&&◌, ℕ, ◌+◌, ◌-◌, ◌<◌, ◌≤◌, Bool, true, false, cond, List, [], ◌∷◌, length, refl, sym, ap, ◌∙◌, subst, arith, Option, Some, None, Result, Ok, Err, All}
-use Rattle.std.specs.Prelude.{codes, slice_get, map, is_some, nat_lt, nat_le}
+use Rattle.std.proofs.Common.{◌≡◌, ℕ, ◌+◌, ◌≤◌, true, false, List, [], ◌∷◌, length, refl, sym, ap, ◌∙◌, subst, arith, Some, None, Ok}
+use Rattle.std.specs.Prelude.{codes, slice_get, map}
 use Rattle.std.proofs.lemmas.Bool.{le-leb, lt-ltb}
 use Rattle.byte_ends.specs.Text.{words}
 use Rattle.unix_calls.specs.declared.World.{World}
 use Rattle.unix_calls.specs.declared.Script.{Script}
-use Rattle.unix_calls.specs.declared.Start.{Start}
-use Rattle.unix_calls.specs.declared.Work.{Work}
 use Rattle.unix_calls.specs.Valid.{IsValid}
 use Rattle.unix_calls.specs.Work.{works}
-use Rattle.script_reader.specs.declared.faults.Kind.{Kind}
-use Rattle.script_reader.specs.declared.faults.Fault.{Fault}
 use Rattle.script_reader.specs.declared.names.Names.{Names}
 use Rattle.script_reader.specs.declared.places.Place.{Place}
 use Rattle.script_reader.specs.declared.lines.Head.TheVariants as head
-use Rattle.script_reader.specs.declared.lines.Item.{Item}
 use Rattle.script_reader.specs.declared.lines.Item.TheVariants as item
 use Rattle.script_reader.specs.Words.{Word, Row, word_at, is_same}
 use Rattle.script_reader.specs.Lines.{is_skipped, cluster_line, read_row, place_after, placed_after}
 use Rattle.script_reader.specs.Statements.{ended}
-use Rattle.script_reader.specs.Files.{begins_with, Told, tells, first_place, place_behind, scripts_of, body, judged, gather, end_kind, ended_world, whole_world, silent_kind, fault_at, told_part, read_part}
+use Rattle.script_reader.specs.Files.{Told, tells, first_place, place_behind, scripts_of, judged, gather, end_kind, told_part, read_part}
 use Rattle.script_laws.specs.Grammar.{Naming, IsCalled, IsFor, Part, silent, opens, IsFile}
 use Rattle.script_laws.specs.Worlds.{FileIsRead}
 use Rattle.script_laws.proofs.Words.{skipped_script, begins_so, script_word}

@@ -1,8 +1,6 @@
 -- words that are told apart
-use Rattle.std.proofs.Common.{◌≡◌, ◌==◌, ◌||◌, ℕ, Bool, true, false, cond, List, [], ◌∷◌, refl, sym, ap, ◌∙◌, subst, Option, Some, None}
+use Rattle.std.proofs.Common.{◌≡◌, ◌==◌, ℕ, Bool, true, false, List, [], ◌∷◌, refl, ap, ◌∙◌, subst, Option, Some, None}
 use Rattle.std.specs.Prelude.{codes}
-use Rattle.std.specs.List.{find}
-use Rattle.std.specs.Str.{bytes_eq}
 use Rattle.unix_names.proofs.SignalLaws.{find-passes}
 use Rattle.std.proofs.lemmas.Bool.{eqb-true}
 use Rattle.std.proofs.lemmas.Slice.Eq.{bytes_eq-Decides}
@@ -12,7 +10,7 @@ use Rattle.script_reader.specs.declared.lines.Head.{Head}
 use Rattle.script_reader.specs.declared.lines.Head.TheVariants as head
 use Rattle.script_reader.specs.Words.{Word, Row, is_same, word_at}
 use Rattle.script_reader.specs.Statements.{text_of, all_verbs, verb_named}
-use Rattle.script_reader.specs.Lines.{is_skipped, begins_with_hash, head_of}
+use Rattle.script_reader.specs.Lines.{is_skipped, head_of}
 use Rattle.script_reader.specs.Files.{begins_with}
 
 pub same_words : (a b : Word) → is_same a b ≡ true → a ≡ b

@@ -1,6 +1,6 @@
 -- The grammar of a part: which words spell which world.
-use Rattle.std.specs.Prelude.{◌≡◌, ◌⊎◌, ℕ, ◌+◌, ◌<◌, ◌≤◌, ◌==◌, Bool, true, false, Option, Some, None, List, [], ◌∷◌, ◌++◌, length, codes, fold, slice_get, map, All}
-use Rattle.std.specs.List.{AllZip, list_all, list_any}
+use Rattle.std.specs.Prelude.{◌≡◌, ◌⊎◌, ℕ, ◌≤◌, Bool, true, false, Option, Some, None, List, [], ◌∷◌, ◌++◌, length, codes, fold, slice_get, map, All}
+use Rattle.std.specs.List.{AllZip, list_all}
 use Rattle.std.specs.Str.{is_utf8}
 use Rattle.std.specs.Str.Parse.{digits_value}
 use Rattle.byte_ends.specs.Text.{words, IsNumber}

@@ -6,7 +6,6 @@ use Rattle.unix_calls.specs.declared.world.Arg.{Arg}
 use Rattle.unix_calls.specs.declared.world.Arg.TheVariants.{Zero, One, Nobody}
 use Rattle.unix_calls.specs.declared.world.Statement.{Statement}
 use Rattle.unix_calls.specs.declared.world.Statement.TheVariants.{Fork, Exit, Wait, Kill, Setpgid, Action, Mask}
-
 use Rattle.unix_calls.specs.declared.world.Script.{Script}
 use Rattle.unix_calls.specs.declared.world.World.{World}
 use Rattle.unix_calls.specs.Valid.{IsValid}

@@ -1,7 +1,7 @@
 //! What is true of files and of the worlds that they mean by the definitions, as the contracts of functions without a body.
 #![tactic(auto)]
 
-ghost use Rattle.script_laws.specs.Worlds.{ReadIsValid, ReadIsWritable};
+ghost use Rattle.script_laws.specs.Worlds.{ReadIsValid, ReadIsWritable, FileIsRead, ReadIsFile, SpellsOrFails, FaultIsLeast};
 
 /// Each world that a part of a file means can be run.
 pub fn read_is_valid()
@@ -11,4 +11,20 @@ pub fn read_is_valid()
 /// A world that a part of a file means is numbered as files number: variables by their first fork line and then by their start lines; its numbers are below 2^32, its masks are sets of signals, and it starts something.
 pub fn read_is_writable()
     ensures { ReadIsWritable }
+{}
+
+/// A part of a file is read exactly where it is one of the grammar, and means the world that it spells.
+pub fn grammar_is_read()
+    ensures read { FileIsRead }
+    ensures spelled { ReadIsFile }
+{}
+
+/// Either a part of a file spells one world, and has no fault; or it has one fault, and is none of the grammar.
+pub fn part_spells_or_fails()
+    ensures { SpellsOrFails }
+{}
+
+/// No line before that of a part's fault has a fault of its own.
+pub fn fault_is_least()
+    ensures { FaultIsLeast }
 {}
