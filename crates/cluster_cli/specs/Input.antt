@@ -1,5 +1,5 @@
 -- What an input means to the commands that read one.
-use Rattle.std.specs.Prelude.{◌≡◌, ℕ, ◌+◌, Bool, true, false, ◌&&◌, nat_lt, nat_le, if◌then◌else◌, List, [], ◌∷◌, ◌++◌, length, codes, Option, Some, None, Result, Ok, Err}
+use Rattle.std.specs.Prelude.{◌≡◌, ℕ, ◌+◌, Bool, true, false, ◌&&◌, nat_lt, nat_le, if◌then◌else◌, List, [], ◌∷◌, ◌++◌, length, map, codes, Option, Some, None, Result, Ok, Err}
 use Rattle.std.specs.Fmt.{decimal}
 use Rattle.std.specs.Str.Parse.{digits_value}
 use Rattle.byte_ends.specs.Text.{lines, words}
@@ -54,9 +54,9 @@ asks_many (word ∷ number ∷ []) = is_same word (codes "cluster") && (is_numbe
 asks_many _ = false
 
 -- the number of the first such line
-abbrev pub many_nodes : ℕ → Lines → Option ℕ
+abbrev pub many_nodes : ℕ → List Row → Option ℕ
 many_nodes number [] = None
-many_nodes number (l ∷ ls) = if asks_many (words l) then Some number else many_nodes (number + 1) ls
+many_nodes number (row ∷ rows) = if asks_many row then Some number else many_nodes (number + 1) rows
 
 abbrev pub least : ℕ → Fault → Fault
 least number fault = if nat_lt fault.line number then fault else fault_at number UnknownWord
@@ -69,7 +69,7 @@ on_one_node (Some number) (Ok g) = Err (fault_at number UnknownWord)
 
 -- the world and the schedule of an input that is to be run, or its least fault
 abbrev pub runnable : List ℕ → Result Given Fault
-runnable input = on_one_node (many_nodes 1 (world_lines (lines input))) (without_history (lines input) (given input))
+runnable input = on_one_node (many_nodes 1 (map words (world_lines (lines input)))) (without_history (lines input) (given input))
 
 -- ---- what is said of a fault
 abbrev pub fault_text : Fault → List ℕ

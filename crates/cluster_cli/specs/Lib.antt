@@ -1,5 +1,6 @@
 pub mod Status
 pub mod Ends
 pub mod Commands
+pub mod Reading
 pub mod Input
 pub mod Replay

@@ -1,5 +1,10 @@
 // What a command says of an input.
 ghost use Rattle.std.specs.Prelude.{◌≡◌, ◌≤◌, IfOk, length};
+ghost use Rattle.cluster_core.specs.Run.{run};
+ghost use Rattle.cluster_laws.specs.Laws.{CanRun};
+ghost use Rattle.cluster_cli.specs.Ends.{HasText, input_limit};
+ghost use Rattle.cluster_cli.specs.Input.{fault_text};
+ghost use Rattle.cluster_cli.specs.Replay.{run_text, Replays};
 
 use crate::input::{Given, read_runnable};
 use crate::status::Status;
@@ -18,6 +23,9 @@ pub struct Answer {
 
 /// The history of an input that is run, or its least fault.
 pub fn replay(alloc: Global, input: &[u8]) -> Result<Answer, NoMemory>
+    requires { length input.now ≤ input_limit }
+    ensures has_text { IfOk result (λ a. HasText a.status) }
+    ensures text { IfOk result (λ a. Replays a.status input.now a.text.items) }
 {
     match read_runnable(alloc, input) {
         Err(ReadRefusal::NoMemory) => Err(NoMemory),
@@ -27,6 +35,9 @@ pub fn replay(alloc: Global, input: &[u8]) -> Result<Answer, NoMemory>
 }
 
 fn ran(alloc: Global, given: &Given) -> Result<Answer, NoMemory>
+    requires { CanRun given.now.world given.now.turns }
+    ensures done { IfOk result (λ a. a.status ≡ Status.Done) }
+    ensures text { IfOk result (λ a. a.text.items ≡ run_text (run given.now.world given.now.turns)) }
 {
     let run = run(alloc, &given.world, given.turns.as_slice())?;
     let text = put_history(alloc, run.entries.as_slice(), run.is_quiet)?;
@@ -37,6 +48,8 @@ fn ran(alloc: Global, given: &Given) -> Result<Answer, NoMemory>
 }
 
 fn refused(alloc: Global, fault: &Fault) -> Result<Answer, NoMemory>
+    ensures bad { IfOk result (λ a. a.status ≡ Status.BadFile) }
+    ensures text { IfOk result (λ a. a.text.items ≡ fault_text fault.now) }
 {
     let text = fault_text(alloc, fault)?;
     Ok(Answer {
@@ -46,6 +59,7 @@ fn refused(alloc: Global, fault: &Fault) -> Result<Answer, NoMemory>
 }
 
 fn fault_text(alloc: Global, fault: &Fault) -> Result<Vec<u8>, AllocError>
+    ensures { IfOk result (λ text. text.items ≡ fault_text fault.now) }
 {
     let mut text = String::new(alloc);
     let line = fault.line;

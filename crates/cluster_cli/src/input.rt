@@ -1,9 +1,13 @@
 // What an input means: its world and the turns of its schedule, or its least fault.
 ghost use Rattle.std.specs.Prelude.{◌≡◌, ◌≤◌, ◌<◌, ◌^◌, Ok, Err, IfOk, length, map, slice_range};
-ghost use Rattle.byte_ends.specs.Text.{lines};
+ghost use Rattle.byte_ends.specs.Text.{lines, words as words_in};
 ghost use Rattle.file_parts.specs.Parts.{IsPart, IsPartOf, world_lines, front_lines, schedule_lines, history_lines};
+ghost use Rattle.std.specs.Prelude.{Result, ◌&&◌, ◌+◌};
+ghost use Rattle.std.specs.Str.Parse.{digits_value};
 ghost use Rattle.script_reader.specs.declared.faults.Fault.{Fault};
-ghost use Rattle.script_reader.specs.Files.{read_part};
+ghost use Rattle.script_reader.specs.Words.{is_same, is_number};
+ghost use Rattle.script_reader.specs.Files.{fault_at};
+ghost use Rattle.cluster_cli.specs.Reading.{IsReading, AreParts};
 ghost use Rattle.cluster_cli.specs.Ends.{input_limit};
 ghost use Rattle.cluster_cli.specs.Input as spec;
 
@@ -31,8 +35,7 @@ pub struct Given {
 /// The world and the schedule of an input that is to be run on one node, or its least fault; a history is one.
 pub fn read_runnable(alloc: Global, input: &[u8]) -> Result<Given, ReadRefusal>
     requires { length input.now ≤ input_limit }
-    ensures read { IfOk result (λ g. spec.runnable input.now ≡ Ok g) }
-    ensures fault { (fault : Fault) → result ≡ Err (ReadRefusal.Bad fault) → spec.runnable input.now ≡ Err fault }
+    ensures { IsReading result (spec.runnable input.now) }
 {
     let parts = split(input);
     let many = many_nodes(alloc, input, parts.world)?;
@@ -41,6 +44,7 @@ pub fn read_runnable(alloc: Global, input: &[u8]) -> Result<Given, ReadRefusal>
 
 // The lesser of two faults: of a line that asks for more than one node, and of what was read.
 fn on_one_node(many: Option<u32>, read: Result<Given, ReadRefusal>) -> Result<Given, ReadRefusal>
+    ensures read { (found : Result Given Fault) → IsReading read found → IsReading result (spec.on_one_node many found) }
 {
     let Some(line) = many else {
         return read;
@@ -54,6 +58,9 @@ fn on_one_node(many: Option<u32>, read: Result<Given, ReadRefusal>) -> Result<Gi
 
 /// The world and the schedule of an input whose parts these are, or its least fault.
 pub fn read_given(alloc: Global, input: &[u8], parts: &Parts) -> Result<Given, ReadRefusal>
+    requires short { length input.now ≤ input_limit }
+    requires parts { AreParts input.now parts.now }
+    ensures { IsReading result (spec.given input.now) }
 {
     let world = read_file(alloc, input, parts.world)?;
     let turns = turns_given(alloc, input, parts.schedule, world.nodes)?;
@@ -66,6 +73,9 @@ fn turns_given(
     part: Option<Span>,
     nodes: u32,
 ) -> Result<Seq<Turn>, ReadRefusal>
+    requires short { length input.now ≤ input_limit }
+    requires part { IsPartOf input.now (schedule_lines (lines input.now)) (2 + length (world_lines (lines input.now))) part }
+    ensures { IsReading result (spec.turns_given nodes (2 + length (world_lines (lines input.now))) (schedule_lines (lines input.now))) }
 {
     match part {
         None => {
@@ -82,6 +92,9 @@ fn read_without_history(
     input: &[u8],
     parts: &Parts,
 ) -> Result<Given, ReadRefusal>
+    requires short { length input.now ≤ input_limit }
+    requires parts { AreParts input.now parts.now }
+    ensures { IsReading result (spec.without_history (lines input.now) (spec.given input.now)) }
 {
     let given = read_given(alloc, input, parts)?;
     match parts.history {
@@ -92,6 +105,7 @@ fn read_without_history(
 }
 
 fn unknown_word(line: u32) -> ReadRefusal
+    ensures { result ≡ ReadRefusal.Bad (fault_at line Kind.UnknownWord) }
 {
     ReadRefusal::Bad(Fault {
         line,
@@ -101,6 +115,9 @@ fn unknown_word(line: u32) -> ReadRefusal
 
 // The number of the first line that asks for more than one node.
 fn many_nodes(alloc: Global, input: &[u8], part: Span) -> Result<Option<u32>, NoMemory>
+    requires short { length input.now ≤ input_limit }
+    requires part { IsPart input.now (world_lines (lines input.now)) 1 part }
+    ensures { IfOk result (λ n. n ≡ spec.many_nodes 1 (map words_in (world_lines (lines input.now)))) }
 {
     let text = &input[part.from..part.to];
     let mut at = 0;
@@ -117,6 +134,7 @@ fn many_nodes(alloc: Global, input: &[u8], part: Span) -> Result<Option<u32>, No
 }
 
 fn asks_many(words: &[&[u8]]) -> bool
+    ensures { result ≡ spec.asks_many (map (λ w. w.now) words.now) }
 {
     match words {
         [word, number] => is_word(word, "cluster") && is_many(number),
@@ -124,12 +142,16 @@ fn asks_many(words: &[&[u8]]) -> bool
     }
 }
 
+#[tactic(auto, unfolding(script_reader::specs::Words::is_same))]
 fn is_word(word: &[u8], text: &str) -> bool
+    ensures { result ≡ is_same word.now text.now }
 {
     word == text.as_bytes()
 }
 
+#[tactic(auto, unfolding(script_reader::specs::Words::is_number))]
 fn is_many(number: &[u8]) -> bool
+    ensures { result ≡ (is_number number.now && spec.is_many (digits_value 10 number.now)) }
 {
     match number_at(number) {
         Some(nodes) => 1 < nodes && nodes <= MOST_NODES,
