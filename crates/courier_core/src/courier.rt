@@ -1,5 +1,5 @@
 // Couriers, and what travels between nodes.
-ghost use Rattle.std.specs.Prelude.{◌≡◌, ◌<◌, ◌++◌, true, false, length, OnOk, OnErr};
+ghost use Rattle.std.specs.Prelude.{◌≡◌, ◌<◌, true, length, is_none, Some, IsSome, OnOk, OnErr};
 
 use crate::wants::{add_needed_and_held, comes_before, least_lacking};
 use proc_image::Image;
@@ -27,18 +27,23 @@ pub enum Message {
 }
 
 impl Courier {
-    ghost use Rattle.record_bag.specs.Bags.{held_names};
-    ghost use Rattle.courier_core.specs.Wants.{lacking, lists, IsLeast, all_added};
+    ghost use Rattle.courier_core.specs.Wants.{lacking, IsLeast};
     ghost use Rattle.courier_core.specs.Couriers.{asked, next_want, must_restart, remembered, HoldsWhatIsBelow};
+
+    /// Whether the bag has each needed and wanted name. It takes no memory.
+    pub fn has_all(&self, need: &[Name]) -> bool
+        ensures { result ≡ is_none (next_want self.now need.now) }
+    {
+        self.least_lacking(need).is_none()
+    }
 
     /// The least of the needed and wanted names that the bag lacks. It takes no memory.
     pub fn next_want(&self, need: &[Name]) -> Name
-        requires { 0 < length (lacking self.now.bag (asked self.now need.now)) }
+        requires { IsSome (next_want self.now need.now) }
         ensures next { next_want self.now need.now ≡ Some result }
         ensures least { IsLeast result (lacking self.now.bag (asked self.now need.now)) }
     {
-        let wanted = least_lacking(&self.bag, None, self.wants.as_slice());
-        match least_lacking(&self.bag, wanted, need) {
+        match self.least_lacking(need) {
             Some(name) => name,
             None => unreachable!(),
         }
@@ -70,5 +75,12 @@ impl Courier {
                 Err(NoMemory)
             }
         }
+    }
+
+    fn least_lacking(&self, need: &[Name]) -> Option<Name>
+        ensures { result ≡ next_want self.now need.now }
+    {
+        let wanted = least_lacking(&self.bag, None, self.wants.as_slice());
+        least_lacking(&self.bag, wanted, need)
     }
 }

@@ -36,10 +36,12 @@ fn courier(alloc: Global) -> Result<Courier, NoMemory> {
 fn the_least_name_comes_first(rt: HostRuntime) -> Result<(), Fail> {
     let mut courier = courier(rt.alloc())?;
     let need = [Name::G(Pid(1)), Name::V(Pid(7))];
+    assert!(rt; !courier.has_all(&need));
     assert_eq!(rt; courier.next_want(&need), Name::V(Pid(2)));
     assert!(rt; !courier.must_restart(Name::V(Pid(2))));
     let own = Held::absent(Name::V(Pid(2)));
     assert!(rt; courier.bag.put(Name::V(Pid(2)), own).is_ok());
+    assert!(rt; !courier.has_all(&need));
     assert_eq!(rt; courier.next_want(&need), Name::V(Pid(7)));
     let group = Held::absent(Name::G(Pid(2)));
     assert!(rt; courier.bag.put(Name::G(Pid(2)), group).is_ok());

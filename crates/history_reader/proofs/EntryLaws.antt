@@ -98,9 +98,9 @@ inner-dash = refl
 
 inner-set : (set : ℕ) → list_all is_inner (set_words set) ≡ true
 inner-set set = elim (set == 0) as (λ b. list_all is_inner (cond b (codes "-" ∷ []) (map word_of (filter (has set) all_signals))) ≡ true) [
-    | true ↦ inner-dash
-    | false ↦ inner-words (filter (has set) all_signals)
-  ]
+  | true ↦ inner-dash
+  | false ↦ inner-words (filter (has set) all_signals)
+]
 
 inner-asked : (a b : Bool) → list_all is_inner (asked_words a b) ≡ true
 unfolding is_same
@@ -254,46 +254,72 @@ again-read : reply_in (codes "=" ∷ codes "again" ∷ []) ≡ replies.Again
 unfolding reply_in worded_reply_in is_same word_at is_number
 again-read = refl
 
-number-reply : (n : ℕ) → n < 2 ^ 32 → reply_in (codes "=" ∷ decimal n ∷ []) ≡ replies.Number n
-unfolding reply_in word_at
-number-reply n h = ap (λ b. cond b (replies.Number (number_in (decimal n))) (worded_reply_in (codes "=" ∷ decimal n ∷ []))) (number-decimal n h)
-    ∙ ap (λ m. replies.Number m) (number-read n h)
+some-row : (w : Word) (ws : List Word) → reply_in (w ∷ ws) ≡ cond (is_number (word_at (w ∷ ws) 1))
+    (cond (nat_lt 2 (length (w ∷ ws))) (replies.Child (record { 0 = number_in (word_at (w ∷ ws) 1) }) (status_in (w ∷ ws))) (replies.Number (number_in (word_at (w ∷ ws) 1))))
+    (worded_reply_in (w ∷ ws))
+unfolding reply_in
+some-row w ws = ap (λ b. cond b replies.NoReply (cond (is_number (word_at (w ∷ ws) 1))
+    (cond (nat_lt 2 (length (w ∷ ws))) (replies.Child (record { 0 = number_in (word_at (w ∷ ws) 1) }) (status_in (w ∷ ws))) (replies.Number (number_in (word_at (w ∷ ws) 1))))
+    (worded_reply_in (w ∷ ws)))) (ne_eqb (length (w ∷ ws)) 0 (λ e. absurd (omega arith)))
 
-long-status : (s : WaitStatus) → nat_lt 2 (length (codes "=" ∷ codes "0" ∷ status_words s)) ≡ true
-long-status (status.Exited n) = refl
-long-status (status.Killed s) = refl
-long-status (status.Stopped s) = refl
-long-status status.Continued = refl
+second-word : (w v : Word) (ws : List Word) → word_at (w ∷ v ∷ ws) 1 ≡ v
+unfolding word_at
+second-word w v ws = refl
+
+-- a reply that begins with a number
+number-row : (n : ℕ) (ws : List Word) → n < 2 ^ 32 → reply_in (codes "=" ∷ decimal n ∷ ws)
+    ≡ cond (nat_lt 2 (length (codes "=" ∷ decimal n ∷ ws))) (replies.Child (record { 0 = n }) (status_in (codes "=" ∷ decimal n ∷ ws))) (replies.Number n)
+number-row n ws h =
+    let row : Row = codes "=" ∷ decimal n ∷ ws in
+    some-row (codes "=") (decimal n ∷ ws)
+    ∙ ap (λ v. cond (is_number v) (cond (nat_lt 2 (length row)) (replies.Child (record { 0 = number_in v }) (status_in row)) (replies.Number (number_in v))) (worded_reply_in row)) (second-word (codes "=") (decimal n) ws)
+    ∙ ap (λ b. cond b (cond (nat_lt 2 (length row)) (replies.Child (record { 0 = number_in (decimal n) }) (status_in row)) (replies.Number (number_in (decimal n)))) (worded_reply_in row)) (number-decimal n h)
+    ∙ ap (λ m. cond (nat_lt 2 (length row)) (replies.Child (record { 0 = m }) (status_in row)) (replies.Number m)) (number-read n h)
+
+number-reply : (n : ℕ) → n < 2 ^ 32 → reply_in (codes "=" ∷ decimal n ∷ []) ≡ replies.Number n
+number-reply n h = number-row n [] h
+
+long-status : (p : Word) (s : WaitStatus) → nat_lt 2 (length (codes "=" ∷ p ∷ status_words s)) ≡ true
+long-status p (status.Exited n) = refl
+long-status p (status.Killed s) = refl
+long-status p (status.Stopped s) = refl
+long-status p status.Continued = refl
 
 child-reply : (n : ℕ) (s : WaitStatus) → n < 2 ^ 32 → StatusFits s → reply_in (codes "=" ∷ decimal n ∷ status_words s) ≡ replies.Child (record { 0 = n }) s
-unfolding reply_in word_at
 child-reply n s h fit =
     let row : Row = codes "=" ∷ decimal n ∷ status_words s in
-    ap (λ b. cond b (cond (nat_lt 2 (length row)) (replies.Child (record { 0 = number_in (decimal n) }) (status_in row)) (replies.Number (number_in (decimal n)))) (worded_reply_in row)) (number-decimal n h)
-    ∙ ap (λ b. cond b (replies.Child (record { 0 = number_in (decimal n) }) (status_in row)) (replies.Number (number_in (decimal n)))) (long-status s)
-    ∙ ap (λ m. replies.Child (record { 0 = m }) (status_in row)) (number-read n h)
+    number-row n (status_words s) h
+    ∙ ap (λ b. cond b (replies.Child (record { 0 = n }) (status_in row)) (replies.Number n)) (long-status (decimal n) s)
     ∙ ap (λ (t : WaitStatus). replies.Child (record { 0 = n }) t) (status-read (decimal n) s fit)
 
 -- a set is no number and no other word of a reply
+set-worded : (s : Signal) (ws : List Word) → worded_reply_in (codes "=" ∷ word_of s ∷ ws) ≡ replies.Set (set_in (word_of s ∷ ws))
+unfolding worded_reply_in errno_named is_same word_at
+set-worded Hup ws = refl
+set-worded Int ws = refl
+set-worded Quit ws = refl
+set-worded Abrt ws = refl
+set-worded Kill ws = refl
+set-worded Usr1 ws = refl
+set-worded Usr2 ws = refl
+set-worded Pipe ws = refl
+set-worded Alrm ws = refl
+set-worded Term ws = refl
+set-worded Chld ws = refl
+set-worded Cont ws = refl
+set-worded Stop ws = refl
+set-worded Tstp ws = refl
+set-worded Ttin ws = refl
+set-worded Ttou ws = refl
+set-worded Urg ws = refl
+
 set-first : (s : Signal) (ws : List Word) → reply_in (codes "=" ∷ word_of s ∷ ws) ≡ replies.Set (set_in (word_of s ∷ ws))
-unfolding reply_in worded_reply_in errno_named is_same word_at is_number
-set-first Hup ws = refl
-set-first Int ws = refl
-set-first Quit ws = refl
-set-first Abrt ws = refl
-set-first Kill ws = refl
-set-first Usr1 ws = refl
-set-first Usr2 ws = refl
-set-first Pipe ws = refl
-set-first Alrm ws = refl
-set-first Term ws = refl
-set-first Chld ws = refl
-set-first Cont ws = refl
-set-first Stop ws = refl
-set-first Tstp ws = refl
-set-first Ttin ws = refl
-set-first Ttou ws = refl
-set-first Urg ws = refl
+set-first s ws =
+    let row : Row = codes "=" ∷ word_of s ∷ ws in
+    some-row (codes "=") (word_of s ∷ ws)
+    ∙ ap (λ v. cond (is_number v) (cond (nat_lt 2 (length row)) (replies.Child (record { 0 = number_in v }) (status_in row)) (replies.Number (number_in v))) (worded_reply_in row)) (second-word (codes "=") (word_of s) ws)
+    ∙ ap (λ b. cond b (cond (nat_lt 2 (length row)) (replies.Child (record { 0 = number_in (word_of s) }) (status_in row)) (replies.Number (number_in (word_of s)))) (worded_reply_in row)) (word-not_number s)
+    ∙ set-worded s ws
 
 dash-first : reply_in (codes "=" ∷ codes "-" ∷ []) ≡ replies.Set (set_in (codes "-" ∷ []))
 unfolding reply_in worded_reply_in errno_named is_same word_at is_number
@@ -309,9 +335,9 @@ words-first (s ∷ ss) = set-first s (map word_of ss)
 
 set-words-first : (set : ℕ) → reply_in (codes "=" ∷ set_words set) ≡ replies.Set (set_in (set_words set))
 set-words-first set = elim (set == 0) as (λ b. let ws : List Word = cond b (codes "-" ∷ []) (map word_of (filter (has set) all_signals)) in reply_in (codes "=" ∷ ws) ≡ replies.Set (set_in ws)) [
-    | true ↦ dash-first
-    | false ↦ words-first (filter (has set) all_signals)
-  ]
+  | true ↦ dash-first
+  | false ↦ words-first (filter (has set) all_signals)
+]
 
 no-reply : reply_in [] ≡ replies.NoReply
 unfolding reply_in

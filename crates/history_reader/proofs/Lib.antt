@@ -1,2 +1,6 @@
 pub mod EntryLaws
+pub mod FitLaws
+pub mod HistoryLaws
 pub mod LooseLaws
+pub mod Meanings
+pub mod Solid

@@ -1,7 +1,14 @@
 //! Histories read back: which entries the lines of a text mean, or the first line that is bad.
 #![tactic(auto)]
 
+mod entries;
+mod kinds;
+pub mod laws;
+mod loose;
+mod reader;
+#[cfg(test)]
+mod tests;
 mod verbs;
 mod words;
 
-pub use verbs::{Verb, verb_named};
+pub use reader::{TextRefusal, read_history};

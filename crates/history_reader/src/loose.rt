@@ -1,5 +1,6 @@
 // What the words of a line seem to say.
-ghost use Rattle.std.specs.Prelude.{◌≡◌, ◌<◌, ◌≤◌, ◌^◌, map, length};
+ghost use Rattle.std.specs.Prelude.{◌≡◌, ◌<◌, ◌≤◌, ◌^◌, drop, map, length};
+ghost use Rattle.script_reader.specs.Words.{is_number};
 ghost use Rattle.history_reader.specs.Loose as spec;
 
 use crate::verbs::{Verb, verb_named};
@@ -8,11 +9,16 @@ use byte_ends::number_at;
 use unix_calls::{Call, Entry, Event, Reply};
 use unix_names::{Act, Errno, Pid, SigSet, Signal, WaitStatus, number_of, signal_named};
 
-#[tactic(auto, unfolding(crate::specs::Loose::number_in))]
 fn number_in(word: &[u8]) -> u32
     ensures { result ≡ spec.number_in word.now }
 {
     number_at(word).unwrap_or(0)
+}
+
+fn is_number(word: &[u8]) -> bool
+    ensures { result ≡ is_number word.now }
+{
+    number_at(word).is_some()
 }
 
 #[tactic(auto, unfolding(crate::specs::Loose::signed_in))]
@@ -41,6 +47,16 @@ fn signal_in(word: &[u8]) -> Signal
     ensures { result ≡ spec.signal_in word.now }
 {
     signal_named(word).unwrap_or(Signal::Hup)
+}
+
+// The words behind the first.
+fn behind_first<'a, 'b>(words: &'b [&'a [u8]]) -> &'b [&'a [u8]]
+    ensures { map (λ w. w.now) result.now ≡ drop 1 (map (λ w. w.now) words.now) }
+{
+    match words {
+        [] => words,
+        [_, rest @ ..] => rest,
+    }
 }
 
 // The signals that are named.
@@ -119,7 +135,6 @@ fn status_in(words: &[&[u8]]) -> WaitStatus
 // A reply of a word or a set.
 #[tactic(auto, unfolding(crate::specs::Loose::worded_reply_in))]
 fn worded_reply_in(words: &[&[u8]]) -> Reply
-    requires { 1 ≤ length words.now }
     ensures { result ≡ spec.worded_reply_in (map (λ w. w.now) words.now) }
 {
     let word = word_at(words, 1);
@@ -131,34 +146,31 @@ fn worded_reply_in(words: &[&[u8]]) -> Reply
     }
     match errno_named(word) {
         Some(errno) => Reply::Refused(errno),
-        None => Reply::Set(set_in(&words[1..])),
+        None => Reply::Set(set_in(behind_first(words))),
     }
 }
 
 // A reply, with its equals sign; none where there are no words.
-#[tactic(auto, unfolding(crate::specs::Loose::reply_in, crate::specs::Loose::number_in))]
+#[tactic(auto, unfolding(crate::specs::Loose::reply_in))]
 fn reply_in(words: &[&[u8]]) -> Reply
     ensures { result ≡ spec.reply_in (map (λ w. w.now) words.now) }
 {
     if words.is_empty() {
         return Reply::NoReply;
     }
-    match number_at(word_at(words, 1)) {
-        Some(number) => {
-            if words.len() > 2 {
-                Reply::Child(Pid(number), status_in(words))
-            } else {
-                Reply::Number(number)
-            }
-        }
-        None => worded_reply_in(words),
+    let word = word_at(words, 1);
+    if !is_number(word) {
+        worded_reply_in(words)
+    } else if words.len() > 2 {
+        Reply::Child(Pid(number_in(word)), status_in(words))
+    } else {
+        Reply::Number(number_in(word))
     }
 }
 
 // The call of a verb, with its further words.
 #[tactic(auto, unfolding(crate::specs::Loose::call_of))]
 fn call_of(verb: Verb, words: &[&[u8]]) -> Call
-    requires { 1 ≤ length words.now }
     ensures { result ≡ spec.call_of verb (map (λ w. w.now) words.now) }
 {
     let word = word_at(words, 1);
@@ -189,7 +201,7 @@ fn call_of(verb: Verb, words: &[&[u8]]) -> Call
             sig: signal_number_in(word),
             act: act_in(next),
         },
-        Verb::Mask => Call::Mask(set_in(&words[1..])),
+        Verb::Mask => Call::Mask(set_in(behind_first(words))),
         Verb::Pending => Call::Pending,
         Verb::Migrate => Call::Migrate,
     }
@@ -229,11 +241,10 @@ fn event_in(words: &[&[u8]]) -> Event
 /// The entry that the words of a line seem to say: that which they do say, if they say one.
 #[tactic(auto, unfolding(crate::specs::Loose::entry_in))]
 pub fn entry_in(words: &[&[u8]]) -> Entry
-    requires { 1 ≤ length words.now }
     ensures { result ≡ spec.entry_in (map (λ w. w.now) words.now) }
 {
     let pid = Pid(number_in(word_at(words, 0)));
-    let rest = &words[1..];
+    let rest = behind_first(words);
     match verb_named(word_at(words, 1)) {
         Some(verb) => {
             let (call, reply) = rest.split_at(words_before(rest));

@@ -69,5 +69,8 @@ fn text_of(verb: Verb) -> &'static str
 pub fn verb_named(word: &[u8]) -> Option<Verb>
     ensures { result ≡ verb_named word.now }
 {
-    ALL_VERBS.iter().copied().find(|v| is_word(word, text_of(*v)))
+    ALL_VERBS
+        .iter()
+        .copied()
+        .find(|v| is_word(word, text_of(*v)))
 }

@@ -1,5 +1,4 @@
 mod Bounds
-pub mod FormLemmas
 mod Gathered
 mod NameLemmas
 pub mod Numbers

@@ -1,6 +1,5 @@
 pub mod Bodies
 pub mod Files
-pub mod Form
 pub mod Kinds
 pub mod Lines
 pub mod Names

@@ -4,7 +4,6 @@
 mod bodies;
 mod faults;
 mod files;
-mod form;
 mod gather;
 mod lines;
 mod names;
@@ -17,4 +16,3 @@ mod words;
 
 pub use faults::{Fault, Kind, ReadRefusal};
 pub use files::read_file;
-pub use form::{FormRefusal, read_form};

@@ -3,5 +3,7 @@
 
 mod files;
 mod statements;
+#[cfg(test)]
+mod tests;
 
 pub use files::write_file;
