@@ -10,15 +10,19 @@ use Rattle.cluster_cli.specs.declared.commands.Load.{Load}
 abbrev pub Spells : List ℕ → ℕ → Type 0
 Spells word n = IsNumber word × (n ≡ digits_value 10 word)
 
--- the numbers of a load: 1 to 64 nodes, 1 to 200 processes
+-- 1 to 64 nodes, 1 to 200 processes
+pub record IsWithin (nodes size : ℕ) : Type 0 where
+  pub some_node : 1 ≤ nodes
+  pub few_nodes : nodes ≤ 64
+  pub some : 1 ≤ size
+  pub few : size ≤ 200
+
+-- the words are the numbers of a load
 pub record IsLoad (seed nodes size : List ℕ) (load : Load) : Type 0 where
   pub seed : Spells seed load.seed
   pub nodes : Spells nodes load.nodes
   pub size : Spells size load.size
-  pub some_node : 1 ≤ load.nodes
-  pub few_nodes : load.nodes ≤ 64
-  pub some : 1 ≤ load.size
-  pub few : load.size ≤ 200
+  pub within : IsWithin load.nodes load.size
 
 -- the words are the numbers of some load
 abbrev pub NamesLoad : List ℕ → List ℕ → List ℕ → Type 0

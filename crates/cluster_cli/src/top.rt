@@ -1,18 +1,19 @@
 // The top calls: from the words of the command line and the source to the sink and the status.
-ghost use Rattle.std.specs.Prelude.{◌≡◌, ◌≢◌, ◌<◌, ◌≤◌, ◌↔◌, ◌⊎◌, ℕ, List, map, take, length};
+ghost use Rattle.std.specs.Prelude.{◌≡◌, ◌≢◌, ◌+◌, ◌<◌, ◌↔◌, ◌⊎◌, ℕ, map, take, length, Err, IfOk, IfErr};
 ghost use Rattle.std.specs.Io.KnownBytes.{Appends};
 ghost use Rattle.byte_ends.specs.Causes.{Rose};
-ghost use Rattle.cluster_cli.specs.Ends.{Texts, HasText, IsAnswered, IsMade, input_limit};
-ghost use Rattle.cluster_cli.specs.Commands.{Says, SaysNothing};
+ghost use Rattle.load_maker.specs.Made.{made};
+ghost use Rattle.cluster_cli.specs.declared.commands.Load.{Load};
+ghost use Rattle.cluster_cli.specs.Ends.{IsRead, ReadsUpTo, ReadsCount, IsAnswered, IsMade, input_limit};
+ghost use Rattle.cluster_cli.specs.Commands.{IsWithin, Says, SaysNothing};
 ghost use Rattle.cluster_cli.specs.Replay.{Replays};
 
-use crate::answers::{Answer, replay};
+use crate::answers::replay;
 use crate::commands::{Command, command_of};
 use crate::status::Status;
 use byte_ends::{Hold, ReadEnd, Sink, Source, read_all, write_all};
 use load_maker::make;
 use std::alloc::Global;
-use unix_names::NoMemory;
 
 /// How many bytes an input may have.
 const INPUT_LIMIT: usize = 1_048_576;
@@ -25,6 +26,14 @@ pub fn vproc_top<S: Source, K: Sink, H: Hold + Sync>(
     sink: &mut K,
     _hold: &H,
 ) -> Status
+    // Exactly where the words are no command, and nothing is read or written.
+    ensures bad_words { (result ≡ Status.BadWords) ↔ SaysNothing (map (λ w. w.now) words.now) }
+    ensures untouched { result ≡ Status.BadWords → (source.new ≡ source.old) × (sink.new ≡ sink.old) }
+
+    ensures replay { Says (map (λ w. w.now) words.now) Command.Replay
+        → IsAnswered S.left S.faults K.taken K.faults Replays source.old source.new sink.old sink.new result }
+    ensures make { (load : Load) → Says (map (λ w. w.now) words.now) (Command.Make load)
+        → IsMade K.taken K.faults (λ output. output ≡ made load.seed load.nodes load.size) sink.old sink.new result × (source.new ≡ source.old) }
 {
     match command_of(words) {
         None => Status::BadWords,
@@ -35,34 +44,38 @@ pub fn vproc_top<S: Source, K: Sink, H: Hold + Sync>(
 
 /// Reads a file, runs its processes by its schedule, and writes the history.
 pub fn replay_top<S: Source, K: Sink>(alloc: Global, source: &mut S, sink: &mut K) -> Status
+    ensures command { result ≢ Status.BadWords }
+    ensures answered { IsAnswered S.left S.faults K.taken K.faults Replays source.old source.new sink.old sink.new result }
 {
     match read_input(alloc, source) {
         Err(status) => status,
-        Ok(input) => written(sink, replay(alloc, &input)),
+        Ok(input) => match replay(alloc, &input) {
+            Err(_) => Status::NoMemory,
+            Ok(answer) => put(sink, &answer.text, answer.status),
+        },
     }
 }
 
 // The whole of an input, or how its reading ended.
 fn read_input<S: Source>(alloc: Global, source: &mut S) -> Result<Vec<u8>, Status>
+    ensures read { IfOk result (λ v. IsRead (S.left source.old) (S.left source.new) v.items) }
+    ensures some { IfErr result (λ s. (s ≡ Status.ReadFault) ⊎ ((s ≡ Status.TooLong) ⊎ (s ≡ Status.NoMemory))) }
+    ensures read_fault { result ≡ Err Status.ReadFault → Rose (S.faults source.old) (S.faults source.new) }
+    ensures too_long { result ≡ Err Status.TooLong → ReadsCount (input_limit + 1) (S.left source.old) (S.left source.new) }
+    ensures bounded { ReadsUpTo (input_limit + 1) (S.left source.old) (S.left source.new) }
 {
-    read_all(alloc, source, INPUT_LIMIT).map_err(|end| match end {
-        ReadEnd::ReadFault => Status::ReadFault,
-        ReadEnd::TooLong => Status::TooLong,
-        ReadEnd::NoMemory => Status::NoMemory,
-    })
-}
-
-// Writes an answer.
-fn written<K: Sink>(sink: &mut K, answer: Result<Answer, NoMemory>) -> Status
-{
-    match answer {
-        Err(_) => Status::NoMemory,
-        Ok(answer) => put(sink, &answer.text, answer.status),
+    match read_all(alloc, source, INPUT_LIMIT) {
+        Ok(input) => Ok(input),
+        Err(ReadEnd::ReadFault) => Err(Status::ReadFault),
+        Err(ReadEnd::TooLong) => Err(Status::TooLong),
+        Err(ReadEnd::NoMemory) => Err(Status::NoMemory),
     }
 }
 
 /// Writes the made file of a load.
 pub fn make_top<K: Sink>(alloc: Global, seed: u32, nodes: u32, size: u32, sink: &mut K) -> Status
+    requires load { IsWithin nodes size }
+    ensures made { IsMade K.taken K.faults (λ output. output ≡ made seed nodes size) sink.old sink.new result }
 {
     match make(alloc, seed, nodes, size) {
         Err(_) => Status::NoMemory,
