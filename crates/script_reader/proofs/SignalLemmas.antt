@@ -1,5 +1,5 @@
 -- reading signals one after the other, as a loop does
-use Rattle.std.proofs.Common.{◌≡◌, ℕ, ◌+◌, ◌<◌, ◌≤◌, List, [], length, get_or, drop, map, Result, Ok, Err, Bor, sym, refl, ◌∙◌}
+use Rattle.std.proofs.Common.{◌≡◌, ℕ, ◌+◌, ◌<◌, ◌≤◌, List, length, get_or, drop, map, Result, Ok, Err, Bor, sym, refl, ◌∙◌}
 use Rattle.std.proofs.lemmas.List.{at_drop_more, at_drop_all}
 use Rattle.unix_names.specs.declared.signals.Signal.{Signal}
 use Rattle.unix_names.specs.Sets.{added}

@@ -1,5 +1,5 @@
 -- what a whole part means, put together
-use Rattle.std.proofs.Common.{◌≡◌, ℕ, ◌+◌, ◌-◌, true, false, if◌then◌else◌, List, [], length, map, Option, Some, None, Result, Ok, Err, refl, sym, ap, ◌∙◌}
+use Rattle.std.proofs.Common.{◌≡◌, ℕ, ◌+◌, ◌-◌, true, false, List, [], length, map, Option, Some, None, Result, Ok, Err, refl, sym, ap, ◌∙◌}
 use Rattle.byte_ends.specs.Text.{words}
 use Rattle.unix_calls.specs.declared.Script.{Script}
 use Rattle.unix_calls.specs.declared.Start.{Start}
@@ -9,7 +9,7 @@ use Rattle.script_reader.specs.declared.faults.Fault.{Fault}
 use Rattle.script_reader.specs.declared.faults.Kind.{Kind}
 use Rattle.script_reader.specs.declared.names.Names.{Names}
 use Rattle.script_reader.specs.declared.places.Place.{Place}
-use Rattle.script_reader.specs.Files.{Told, first_place, gather, tells, place_behind, scripts_of, judged, fault_at, end_kind, silent_kind, ended_world, whole_world, told_part, read_part}
+use Rattle.script_reader.specs.Files.{first_place, gather, tells, place_behind, scripts_of, judged, fault_at, end_kind, silent_kind, ended_world, whole_world, told_part, read_part}
 
 -- names, scripts and place as the lines give them
 pub record IsRead (lines : List (List ℕ)) (names : Names) (scripts : List Script) (place : Place) : Type 0 where

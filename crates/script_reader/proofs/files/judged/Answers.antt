@@ -1,7 +1,6 @@
-use Rattle.std.proofs.Common.{◌≡◌, ◌+◌, [], Err, map, drop, get_or, sym, ap, ◌∙◌, arith}
+use Rattle.std.proofs.Common.{◌≡◌, ◌+◌, [], map, drop, get_or, sym, ap, ◌∙◌, arith}
 use Rattle.std.proofs.lemmas.Result.{err_from_is_err_and}
 use Rattle.byte_ends.specs.Text.{words}
-use Rattle.script_reader.specs.declared.faults.ReadRefusal.TheVariants.{Bad}
 use Rattle.script_reader.specs.Lines.{read_line, place_after}
 use Rattle.script_reader.specs.Files.{first_place, tells}
 use Rattle.script_reader.proofs.Bounds.{fine-line, has-node, within-after}

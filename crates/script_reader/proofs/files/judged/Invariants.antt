@@ -1,6 +1,6 @@
-use Rattle.std.proofs.Common.{◌≡◌, ◌+◌, ◌≤◌, [], length, map, drop}
+use Rattle.std.proofs.Common.{◌≡◌, ◌+◌, ◌≤◌, [], length, drop}
 use Rattle.unix_calls.specs.Work.{total_work}
-use Rattle.script_reader.specs.Files.{first_place, tells, judged}
+use Rattle.script_reader.specs.Files.{first_place}
 use Rattle.script_reader.proofs.Bounds.{IsWithin}
 use Rattle.script_reader.proofs.Steps.{judged_rest}
 use Rattle.script_reader.proofs.files.judged.Given as goal

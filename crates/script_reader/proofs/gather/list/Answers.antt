@@ -1,4 +1,4 @@
-use Rattle.std.proofs.Common.{◌≡◌, [], map, length, sym, ap, ◌∙◌}
+use Rattle.std.proofs.Common.{[], map}
 use Rattle.script_reader.specs.Files.{listed}
 use Rattle.script_reader.proofs.Gathered.{list-more, list-all}
 use Rattle.script_reader.proofs.gather.list.Goals as goal

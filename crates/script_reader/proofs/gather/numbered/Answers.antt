@@ -1,4 +1,4 @@
-use Rattle.std.proofs.Common.{◌≡◌, [], map, length, sym, ap, ◌∙◌}
+use Rattle.std.proofs.Common.{[], map}
 use Rattle.script_reader.specs.Files.{numbered}
 use Rattle.script_reader.proofs.Gathered.{number-more, number-all}
 use Rattle.script_reader.proofs.gather.numbered.Goals as goal

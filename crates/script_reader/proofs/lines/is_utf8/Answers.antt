@@ -1,4 +1,4 @@
-use Rattle.std.proofs.Common.{◌≡◌, ◌∙◌}
+use Rattle.std.proofs.Common.{◌∙◌}
 use Rattle.script_reader.proofs.Texts.{text_found}
 use Rattle.script_reader.proofs.lines.is_utf8.Goals as goal
 

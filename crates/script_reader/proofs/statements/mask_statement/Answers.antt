@@ -1,4 +1,4 @@
-use Rattle.std.proofs.Common.{◌≡◌, [], map, refl, arith}
+use Rattle.std.proofs.Common.{◌≡◌, [], refl, arith}
 use Rattle.std.proofs.lemmas.List.{nil_from_length}
 use Rattle.script_reader.specs.Statements.{signals, mask_statement}
 use Rattle.script_reader.proofs.statements.mask_statement.Goals as goal

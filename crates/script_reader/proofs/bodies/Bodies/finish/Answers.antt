@@ -1,4 +1,4 @@
-use Rattle.std.proofs.Common.{◌≡◌, ◌∙◌}
+use Rattle.std.proofs.Common.{◌∙◌}
 use Rattle.script_reader.proofs.Steps.{finish-begun, finish-none}
 use Rattle.script_reader.proofs.bodies.Bodies.finish.Goals as goal
 use Rattle.script_reader.proofs.bodies.Bodies.finish.Goals.{then-begun+in_ok-push, else-begun}

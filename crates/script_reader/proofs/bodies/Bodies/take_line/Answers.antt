@@ -1,5 +1,5 @@
-use Rattle.std.proofs.Common.{◌≡◌, map, codes, true, false, Some, None, sym, ◌∙◌}
-use Rattle.script_reader.specs.Files.{begins_with, said}
+use Rattle.std.proofs.Common.{◌≡◌, map, codes, true, false, sym, ◌∙◌}
+use Rattle.script_reader.specs.Files.{begins_with}
 use Rattle.script_reader.proofs.Steps.{take-script, take-statement, take-nothing}
 use Rattle.script_reader.proofs.bodies.Bodies.take_line.Goals as goal
 

@@ -1,5 +1,5 @@
 use Rattle.std.proofs.Common.{◌≡◌, ◌∙◌, ap, None, refl, arith}
-use Rattle.script_reader.specs.Names.{Table, number_in, noted}
+use Rattle.script_reader.specs.Names.{number_in}
 use Rattle.script_reader.proofs.NameLemmas.{seen, inserted_seen}
 use Rattle.script_reader.proofs.names.Numbers.note.Goals as goal
 

@@ -1,7 +1,5 @@
-use Rattle.std.proofs.Common.{◌≡◌, ◌+◌, List, Ok, Err, Some, None, sym, ◌∙◌}
-use Rattle.script_reader.specs.declared.faults.Fault.{Fault}
-use Rattle.script_reader.specs.Words.{Row}
-use Rattle.script_reader.specs.Files.{Told, fault_at, with_start, judged}
+use Rattle.std.proofs.Common.{◌≡◌, Ok, Err, Some, None, sym, ◌∙◌}
+use Rattle.script_reader.specs.Files.{fault_at}
 use Rattle.script_reader.specs.Starts.{started}
 use Rattle.script_reader.proofs.Steps.{judged-bad, judged-other, judged-crowded, start-taken}
 use Rattle.script_reader.proofs.starts.Starts.take_line.Goals as goal
