@@ -1,51 +1,15 @@
 -- lists that names are added to
-use Rattle.std.proofs.Common.{◌≡◌, ◌<◌, ◌≤◌, ◌+◌, ◌⊎◌, ℕ, zero, suc, Bool, true, false, not, List, [], ◌∷◌, ◌++◌, fold, filter, take, length, sym, ap, ◌∙◌, subst, refl, Some, None, Option, cond, if◌then◌else◌, ◌||◌, arith, length-append}
-use Rattle.std.specs.List.{list_any}
+use Rattle.std.proofs.Common.{◌≡◌, ◌<◌, ◌≤◌, Bool, true, false, not, List, [], ◌∷◌, ◌++◌, length, sym, ap, ◌∙◌, subst, refl, Some, cond, if◌then◌else◌, ◌||◌, arith, length-append}
 use Rattle.unix_names.specs.declared.Name.{Name}
 use Rattle.record_bag.specs.declared.Bag.{Bag}
 use Rattle.record_bag.specs.Bags.{is_held, held_names}
 use Rattle.courier_core.specs.declared.courier.Courier.{Courier}
-use Rattle.courier_core.specs.Wants.{is_name, lists, lacking, IsLeast, added, all_added}
+use Rattle.courier_core.specs.Wants.{is_name, lists, lacking, added, all_added}
 use Rattle.courier_core.specs.Couriers.{asked, next_want, must_restart, HoldsWhatIsBelow}
 use Rattle.courier_core.proofs.Order.{is_name-true, IsLeast-least_of}
 
 true-false : true ≡ false → ⊥
 true-false e = cc
-
--- names added in two parts
-pub all_added-append : (names xs ys : List Name) → all_added names (xs ++ ys) ≡ all_added (all_added names xs) ys
-all_added-append names [] ys = refl
-all_added-append names (x ∷ xs) ys = all_added-append (added names x) xs ys
-
--- a front of a front is a front
-pub front-trans : {X : Type 0} (xs ys zs : List X) → take (length xs) ys ≡ xs → take (length ys) zs ≡ ys → take (length xs) zs ≡ xs
-front-trans [] ys zs e f = refl
-front-trans (x ∷ xs) [] zs e f = cc
-front-trans (x ∷ xs) (y ∷ ys) [] e f = cc
-front-trans (x ∷ xs) (y ∷ ys) (z ∷ zs) e f =
-    let xy : y ≡ x = cc in
-    let yz : z ≡ y = cc in
-    let xs_ys : take (length xs) ys ≡ xs = cc in
-    let ys_zs : take (length ys) zs ≡ ys = cc in
-    rw (yz, xy, front-trans xs ys zs xs_ys ys_zs) refl
-
--- names added in three parts
-pub all_added-three : (old one two new xs ys zs : List Name) → one ≡ all_added old xs → two ≡ all_added one ys → new ≡ all_added two zs → new ≡ all_added old (xs ++ (ys ++ zs))
-all_added-three old one two new xs ys zs first second third =
-    third ∙ (ap (λ ns. all_added ns zs) second ∙ (sym (all_added-append one ys zs) ∙ (ap (λ ns. all_added ns (ys ++ zs)) first ∙ sym (all_added-append old xs (ys ++ zs)))))
-
-take-longer : {X : Type 0} (front xs ys : List X) → take (length front) xs ≡ front → take (length front) (xs ++ ys) ≡ front
-take-longer [] xs ys e = refl
-take-longer (f ∷ fs) [] ys e = cc
-take-longer (f ∷ fs) (x ∷ xs) ys e = let h : x ≡ f = cc in let t : take (length fs) xs ≡ fs = cc in rw (h, take-longer fs xs ys t) refl
-
--- what stands at the front stays there
-pub front-added : (front names : List Name) (n : Name) → take (length front) names ≡ front → take (length front) (added names n) ≡ front
-front-added front names n e = front-by front names n (lists names n) e
-  where
-    front-by : (front names : List Name) (n : Name) (b : Bool) → take (length front) names ≡ front → take (length front) (if b then names else names ++ n ∷ []) ≡ front
-    front-by front names n true e = e
-    front-by front names n false e = take-longer front names (n ∷ []) e
 
 longer-by : (names : List Name) (n : Name) (b : Bool) → length names ≤ length (if b then names else names ++ n ∷ [])
 longer-by names n true = omega arith

@@ -1,7 +1,7 @@
 -- the order of names, and the least of some
-use Rattle.std.proofs.Common.{◌≡◌, ◌==◌, ◌<◌, ◌≤◌, ℕ, Bool, true, false, not, nat_lt, List, [], ◌∷◌, ◌++◌, fold, filter, length, sym, ap, ◌∙◌, subst, refl, Some, None, Option, cond, if◌then◌else◌, ◌||◌, arith}
+use Rattle.std.proofs.Common.{◌≡◌, ◌<◌, ℕ, Bool, true, false, not, nat_lt, List, [], ◌∷◌, ◌++◌, length, sym, ap, ◌∙◌, subst, refl, Some, None, Option, cond, if◌then◌else◌, ◌||◌, arith}
 use Rattle.std.specs.List.{list_any, last_or}
-use Rattle.std.proofs.lemmas.Bool.{eq-eqb, eqb-true, ltb-true, ltb-false, lt-ltb, le-ltb}
+use Rattle.std.proofs.lemmas.Bool.{eq-eqb, eqb-true, ltb-true, ltb-false, le-ltb}
 use Rattle.unix_names.specs.declared.Pid.{Pid}
 use Rattle.unix_names.specs.declared.Name.{Name}
 use Rattle.unix_names.specs.declared.Name.TheVariants.{V, G}

@@ -1,5 +1,5 @@
 -- what couriers want
-use Rattle.std.specs.Prelude.{◌≡◌, Bool, true, false, List, ◌++◌, Option, None}
+use Rattle.std.specs.Prelude.{◌≡◌, Bool, true, List, ◌++◌, Option, None}
 use Rattle.std.specs.List.{list_any}
 use Rattle.unix_names.specs.declared.Name.{Name}
 use Rattle.record_bag.specs.Bags.{is_held, held_names}

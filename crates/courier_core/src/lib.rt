@@ -2,8 +2,8 @@
 #![tactic(auto)]
 
 mod courier;
-mod wants;
 #[cfg(test)]
 mod tests;
+mod wants;
 
 pub use courier::{Courier, Message};

@@ -1,22 +1,10 @@
 -- the numbers that words seem to say fit their types
-use Rattle.std.proofs.Common.{◌⊎◌, inl, inr, ◌≡◌, ℕ, zero, suc, neg_ℤ, lit<, ◌+◌, ◌^◌, ◌%◌, ◌<◌, ◌≤◌, nat_lt, nat_le, ℤ, pos, negsuc, Bool, true, false, cond, not, ◌==◌, ◌&&◌, ◌||◌, if◌then◌else◌, List, [], ◌∷◌, ◌++◌, length, take, drop, map, filter, fold, Option, Some, None, refl, ap, sym, ◌∙◌, arith, append-nil, codes}
-use Rattle.std.specs.Prelude.{IsNone, take_while}
-use Rattle.std.specs.List.{list_all}
+use Rattle.std.proofs.Common.{inl, inr, ◌≡◌, ℕ, zero, suc, neg_ℤ, lit<, ◌^◌, ◌%◌, ◌<◌, nat_lt, ℤ, pos, negsuc, Bool, true, false, cond, ◌==◌, List, [], ◌∷◌, length, take, drop, map, filter, fold, Some, None, refl, arith, codes}
 use Rattle.std.specs.Fmt.{decimal, signed_decimal}
-use Rattle.std.specs.Str.{bytes_eq}
-use Rattle.std.specs.Str.Parse.{AllDigits, digits_value}
-use Rattle.std.specs.Cmp.Lexicographic.{same_text}
-use Rattle.std.proofs.lemmas.Bool.{cases_Bool, ne_eqb, eq-eqb}
+use Rattle.std.proofs.lemmas.Bool.{cases_Bool}
 use Rattle.std.proofs.lemmas.Bool.Decides.{nat_tests}
-use Rattle.std.proofs.lemmas.Fmt.{decimal_is_IsNumeral}
-use Rattle.std.proofs.lemmas.Str.Parse.{digit_from_value}
-use Rattle.std.proofs.lemmas.List.Sums.{take_while-cons}
-use Rattle.std.proofs.Math.Seq.{take-append_seam}
-use borrow.Author.Tests.{eqb-true}
-use Rattle.byte_ends.specs.Text.{IsNumber}
 use Rattle.script_reader.specs.Words.{Word, Row, is_same, word_at, is_number}
 use Rattle.script_reader.proofs.Numbers.{is_number-decides}
-use Rattle.text_laws.proofs.Numbers.{IsNumber-decimal, digits_value-decimal}
 use Rattle.unix_names.specs.declared.Signal.{Signal}
 use Rattle.unix_names.specs.declared.Signal.TheVariants.{Hup, Int, Quit, Abrt, Kill, Usr1, Usr2, Pipe, Alrm, Term, Chld, Cont, Stop, Tstp, Ttin, Ttou, Urg}
 use Rattle.unix_names.specs.declared.Act.{Act}
@@ -25,10 +13,9 @@ use Rattle.unix_names.specs.declared.Errno.{Errno}
 use Rattle.unix_names.specs.declared.Errno.TheVariants.{EPERM, ESRCH, EACCES, EINVAL, ECHILD, EAGAIN}
 use Rattle.unix_names.specs.declared.WaitStatus.{WaitStatus}
 use Rattle.unix_names.specs.declared.WaitStatus.TheVariants as status
-use Rattle.unix_names.specs.Signals.{number_of, word_of, signal_of, signal_named, all_signals}
+use Rattle.unix_names.specs.Signals.{word_of, signal_of, signal_named, all_signals}
 use Rattle.unix_names.specs.Sets.{has, added, IsSignals}
-use Rattle.unix_names.proofs.SignalLaws.{signal_named-word_of, signal_named-none, number_of-signal_of, number_of-distinct}
-use Rattle.unix_names.proofs.SetLaws.{has-added, has-none, IsSignals-none, IsSignals-added, same-signals}
+use Rattle.unix_names.proofs.SetLaws.{IsSignals-none, IsSignals-added}
 use Rattle.unix_calls.specs.Calls.{IsName, HasNames, EntryHasNames}
 use Rattle.unix_calls.specs.declared.Call.{Call}
 use Rattle.unix_calls.specs.declared.Call.TheVariants as calls
@@ -41,7 +28,7 @@ use Rattle.unix_calls.specs.declared.Entry.TheVariants.{Called, Happened}
 use Rattle.run_text.specs.History.{named, signal_word, set_words, act_word, errno_word, asked_words, call_words, status_words, reply_words, event_words}
 use Rattle.history_reader.specs.declared.verbs.Verb.{Verb}
 use Rattle.history_reader.specs.declared.verbs.Verb.TheVariants as verb
-use Rattle.history_reader.specs.Loose.{number_in, signed_in, number_or, signal_number_in, signal_in, with_named, set_in, act_in, errno_named, status_in, refused_or, worded_reply_in, reply_in, call_of, verb_named, words_before, event_in, said, entry_in}
+use Rattle.history_reader.specs.Loose.{number_in, signed_in, number_or, signal_number_in, signal_in, with_named, set_in, errno_named, status_in, refused_or, worded_reply_in, reply_in, call_of, verb_named, words_before, said, entry_in}
 use Rattle.history_reader.specs.Reading.{entry_words, CallFits, StatusFits, ReplyFits, Fits}
 use Rattle.std.proofs.lemmas.Int.{ints}
 use Rattle.text_laws.specs.Plain.{is_plain, are_plain}

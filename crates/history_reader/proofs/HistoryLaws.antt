@@ -1,5 +1,5 @@
 -- reading a history line by line
-use Rattle.std.proofs.Common.{◌⊎◌, inl, inr, ◌≡◌, ℕ, ◌+◌, ◌<◌, ◌≤◌, Bool, true, false, ◌||◌, List, [], ◌∷◌, ◌++◌, length, take, drop, refl, ap, sym, subst, ◌∙◌, arith, append_assoc, append-nil, length-append, add-one}
+use Rattle.std.proofs.Common.{inl, inr, ◌≡◌, ℕ, ◌+◌, ◌<◌, Bool, true, false, List, [], ◌∷◌, ◌++◌, length, take, refl, ap, sym, subst, ◌∙◌, arith, append_assoc, append-nil, length-append, add-one}
 use Rattle.std.specs.Prelude.{IsTrue, MatchBool}
 use Rattle.std.proofs.lemmas.Bool.{cases_Bool}
 use Rattle.std.proofs.Math.Seq.{take-append_seam, take-append-add}
@@ -11,7 +11,7 @@ yes : (b : Bool) (P Q : Type 0) → b ≡ true → P → MatchBool b P Q
 yes true P Q e p = p
 yes false P Q e p = absurd (cc)
 
-no : (b : Bool) (P Q : Type 0) → b ≡ false → Q → MatchBool b P Q
+pub no : (b : Bool) (P Q : Type 0) → b ≡ false → Q → MatchBool b P Q
 no true P Q e q = absurd (cc)
 no false P Q e q = q
 

@@ -4,3 +4,4 @@ pub mod HistoryLaws
 pub mod LooseLaws
 pub mod Meanings
 pub mod Solid
+pub mod WrittenLaws

@@ -1,5 +1,5 @@
 -- What the words of a line seem to say, read without care: what is written of it decides whether they say it.
-use Rattle.std.specs.Prelude.{ℕ, ◌%◌, ◌<◌, nat_lt, ℤ, pos, neg_ℤ, Bool, true, false, not, ◌==◌, ◌||◌, if◌then◌else◌, List, [], ◌∷◌, length, take, drop, codes, fold, take_while, Option, Some, None, find, unwrap_or}
+use Rattle.std.specs.Prelude.{ℕ, ◌%◌, nat_lt, ℤ, pos, neg_ℤ, not, ◌==◌, ◌||◌, if◌then◌else◌, List, [], ◌∷◌, length, take, drop, codes, fold, take_while, Option, Some, None, find, unwrap_or}
 use Rattle.std.specs.Str.Parse.{digits_value}
 use Rattle.unix_names.specs.declared.Signal.{Signal}
 use Rattle.unix_names.specs.declared.Signal.TheVariants.{Hup}

@@ -1,9 +1,16 @@
 // What is so of the lines of a history by the definitions alone.
-ghost use Rattle.std.specs.Prelude.{◌≡◌, ℕ, List};
+ghost use Rattle.std.specs.Prelude.{◌≡◌, ℕ, Bool, List, All};
 ghost use Rattle.unix_calls.specs.declared.Entry.{Entry};
-ghost use Rattle.history_reader.specs.Reading.{Fits, Means};
+ghost use Rattle.byte_ends.specs.Text.{lines};
+ghost use Rattle.run_text.specs.History.{IsEntry, text};
+ghost use Rattle.history_reader.specs.Reading.{Fits, AllFit, Means, IsHistory};
 
 /// A line means one entry at most.
 pub fn one_meaning()
     ensures { (line : List ℕ) (d e : Entry) → Fits d → Fits e → Means line d → Means line e → d ≡ e }
+{}
+
+/// The text that is written of some entries is a history of them.
+pub fn histories_read_back()
+    ensures { (entries : List Entry) (is_quiet : Bool) → All IsEntry entries → AllFit entries → IsHistory (lines (text entries is_quiet)) entries }
 {}

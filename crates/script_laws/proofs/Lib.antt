@@ -26,3 +26,9 @@ pub mod Grammatical
 pub mod Built
 pub mod Exact
 pub mod Least
+pub mod Masks
+pub mod Chosen
+pub mod Spelled
+pub mod Rows
+pub mod Solid
+pub mod Back

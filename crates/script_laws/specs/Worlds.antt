@@ -1,10 +1,11 @@
 -- What is true of each world that a part of a file means.
 use Rattle.std.specs.Prelude.{◌≡◌, ◌⊎◌, ℕ, ◌+◌, ◌<◌, ◌≤◌, List, length, map, slice_get, Some, Ok, Err, IsOk}
-use Rattle.byte_ends.specs.Text.{words}
+use Rattle.byte_ends.specs.Text.{lines, words}
 use Rattle.unix_calls.specs.declared.World.{World}
 use Rattle.unix_calls.specs.Valid.{IsValid}
 use Rattle.script_reader.specs.declared.faults.Fault.{Fault}
 use Rattle.script_reader.specs.Files.{Told, gather, tells, first_place, read_part}
+use Rattle.script_writer.specs.Written.{file_text}
 use Rattle.script_laws.specs.Grammar.{IsFile}
 use Rattle.script_laws.specs.Writable.{IsWritable}
 
@@ -44,3 +45,7 @@ abbrev pub FaultIsLeast : Type 0
 FaultIsLeast = (first : ℕ) (lines : List (List ℕ)) (fault : Fault) → read_part first lines ≡ Err fault →
     (first ≤ fault.line) × ((fault.line ≡ first) ⊎ (fault.line < first + length lines))
     × ((k : ℕ) (told : Told) → slice_get (tells (gather (map words lines)) first_place lines) k ≡ Some told → first + k < fault.line → IsOk told.1)
+
+-- a world of files that is written is read back as itself
+abbrev pub WrittenIsRead : Type 0
+WrittenIsRead = (first : ℕ) (world : World) → IsWritable world → read_part first (lines (file_text world)) ≡ Ok world

@@ -110,7 +110,12 @@ fn reads_what_it_writes(rt: HostRuntime) -> Result<(), Fail> {
     assert_eq!(rt; (world.nodes, world.vars), (again.nodes, again.vars));
     assert!(rt; world.starts == again.starts);
     assert_eq!(rt; again.scripts.len(), 2);
-    for (old, new) in world.scripts.as_slice().iter().zip(again.scripts.as_slice()) {
+    for (old, new) in world
+        .scripts
+        .as_slice()
+        .iter()
+        .zip(again.scripts.as_slice())
+    {
         assert!(rt; old.statements == new.statements);
     }
     Ok(())
