@@ -30,7 +30,7 @@ use Rattle.run_text.specs.Schedule.{SoFar, turns_in, added, after_line, turns_of
 use Rattle.cluster_core.specs.Run.{turn_count, total_turns}
 use Rattle.cluster_laws.specs.Laws.{CanRun}
 use Rattle.cluster_cli.specs.declared.input.Given.{Given}
-use Rattle.cluster_cli.specs.Input.{asks_many, is_many, many_nodes, given, with_schedule, with_turns, turns_given, refused_history, without_history, least, on_one_node, runnable}
+use Rattle.cluster_cli.specs.Input.{asks_many, is_many, many_nodes, meaning, with_schedule, with_turns, turns_given, refused_history, without_history, least, on_one_node, runnable}
 
 -- ---- one node
 some_none : (n : ℕ) → Some n ≡ None → ⊥
@@ -173,8 +173,8 @@ on_one_ok (Some number) (Err fault) g e = absurd (err_ok (least number fault) g 
 -- an input that is read to be run can be run on one node
 pub can_run : (input : List ℕ) (g : Given) → runnable input ≡ Ok g → CanRun g.world g.turns
 can_run input g e =
-    let o = on_one_ok (many_nodes 1 (map words (world_lines (lines input)))) (without_history (lines input) (given input)) g e in
-    let w = without_ok (lines input) (given input) g o.1 in
+    let o = on_one_ok (many_nodes 1 (map words (world_lines (lines input)))) (without_history (lines input) (meaning input)) g e in
+    let w = without_ok (lines input) (meaning input) g o.1 in
     let r = given_ok (lines input) (read_part 1 (world_lines (lines input))) g w in
     let file = read_is_file 1 (world_lines (lines input)) g.world r.0 in
     record {

@@ -31,8 +31,8 @@ with_schedule ls (Ok world) = with_turns world (turns_given world.nodes (2 + len
 with_schedule ls (Err fault) = Err fault
 
 -- the world and the schedule of an input, or its least fault
-abbrev pub given : List ℕ → Result Given Fault
-given input = with_schedule (lines input) (read_part 1 (world_lines (lines input)))
+abbrev pub meaning : List ℕ → Result Given Fault
+meaning input = with_schedule (lines input) (read_part 1 (world_lines (lines input)))
 
 -- ---- what is run, as yet on one node
 -- the dividing line of a history is a fault
@@ -69,7 +69,7 @@ on_one_node (Some number) (Ok g) = Err (fault_at number UnknownWord)
 
 -- the world and the schedule of an input that is to be run, or its least fault
 abbrev pub runnable : List ℕ → Result Given Fault
-runnable input = on_one_node (many_nodes 1 (map words (world_lines (lines input)))) (without_history (lines input) (given input))
+runnable input = on_one_node (many_nodes 1 (map words (world_lines (lines input)))) (without_history (lines input) (meaning input))
 
 -- ---- what is said of a fault
 abbrev pub fault_text : Fault → List ℕ

@@ -4,3 +4,4 @@ pub mod Commands
 pub mod Reading
 pub mod Input
 pub mod Replay
+pub mod Audit

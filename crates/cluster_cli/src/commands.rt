@@ -9,6 +9,8 @@ use byte_ends::number_at;
 pub enum Command {
     /// To run a file by its schedule, and to write the history.
     Replay,
+    /// To judge the history part of a file.
+    Audit,
     /// To write the file of a load.
     Make(Load),
 }
@@ -40,6 +42,8 @@ fn plain_command(word: &str) -> Option<Command>
 {
     if is_word(word, "replay") {
         Some(Command::Replay)
+    } else if is_word(word, "audit") {
+        Some(Command::Audit)
     } else {
         None
     }

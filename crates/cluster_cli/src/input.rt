@@ -60,7 +60,7 @@ fn on_one_node(many: Option<u32>, read: Result<Given, ReadRefusal>) -> Result<Gi
 pub fn read_given(alloc: Global, input: &[u8], parts: &Parts) -> Result<Given, ReadRefusal>
     requires short { length input.now ≤ input_limit }
     requires parts { AreParts input.now parts.now }
-    ensures { IsReading result (spec.given input.now) }
+    ensures { IsReading result (spec.meaning input.now) }
 {
     let world = read_file(alloc, input, parts.world)?;
     let turns = turns_given(alloc, input, parts.schedule, world.nodes)?;
@@ -94,7 +94,7 @@ fn read_without_history(
 ) -> Result<Given, ReadRefusal>
     requires short { length input.now ≤ input_limit }
     requires parts { AreParts input.now parts.now }
-    ensures { IsReading result (spec.without_history (lines input.now) (spec.given input.now)) }
+    ensures { IsReading result (spec.without_history (lines input.now) (spec.meaning input.now)) }
 {
     let given = read_given(alloc, input, parts)?;
     match parts.history {

@@ -7,8 +7,9 @@ ghost use Rattle.cluster_cli.specs.declared.commands.Load.{Load};
 ghost use Rattle.cluster_cli.specs.Ends.{IsRead, ReadsUpTo, ReadsCount, IsAnswered, IsMade, input_limit};
 ghost use Rattle.cluster_cli.specs.Commands.{IsWithin, Says, SaysNothing};
 ghost use Rattle.cluster_cli.specs.Replay.{Replays};
+ghost use Rattle.cluster_cli.specs.Audit.{Audits};
 
-use crate::answers::replay;
+use crate::answers::{audit, replay};
 use crate::commands::{Command, command_of};
 use crate::status::Status;
 use byte_ends::{Hold, ReadEnd, Sink, Source, read_all, write_all};
@@ -32,12 +33,15 @@ pub fn vproc_top<S: Source, K: Sink, H: Hold + Sync>(
 
     ensures replay { Says (map (λ w. w.now) words.now) Command.Replay
         → IsAnswered S.left S.faults K.taken K.faults Replays source.old source.new sink.old sink.new result }
+    ensures audit { Says (map (λ w. w.now) words.now) Command.Audit
+        → IsAnswered S.left S.faults K.taken K.faults Audits source.old source.new sink.old sink.new result }
     ensures make { (load : Load) → Says (map (λ w. w.now) words.now) (Command.Make load)
         → IsMade K.taken K.faults (λ output. output ≡ made load.seed load.nodes load.size) sink.old sink.new result × (source.new ≡ source.old) }
 {
     match command_of(words) {
         None => Status::BadWords,
         Some(Command::Replay) => replay_top(alloc, source, sink),
+        Some(Command::Audit) => audit_top(alloc, source, sink),
         Some(Command::Make(load)) => make_top(alloc, load.seed, load.nodes, load.size, sink),
     }
 }
@@ -50,6 +54,20 @@ pub fn replay_top<S: Source, K: Sink>(alloc: Global, source: &mut S, sink: &mut 
     match read_input(alloc, source) {
         Err(status) => status,
         Ok(input) => match replay(alloc, &input) {
+            Err(_) => Status::NoMemory,
+            Ok(answer) => put(sink, &answer.text, answer.status),
+        },
+    }
+}
+
+/// Reads a file with a history, and writes the verdict on it.
+pub fn audit_top<S: Source, K: Sink>(alloc: Global, source: &mut S, sink: &mut K) -> Status
+    ensures command { result ≢ Status.BadWords }
+    ensures answered { IsAnswered S.left S.faults K.taken K.faults Audits source.old source.new sink.old sink.new result }
+{
+    match read_input(alloc, source) {
+        Err(status) => status,
+        Ok(input) => match audit(alloc, &input) {
             Err(_) => Status::NoMemory,
             Ok(answer) => put(sink, &answer.text, answer.status),
         },
