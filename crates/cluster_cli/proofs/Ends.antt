@@ -1,5 +1,5 @@
 -- What a command has answered, put together from what it read, said and wrote.
-use Rattle.std.proofs.Common.{◌≡◌, ◌⊎◌, inl, inr, ◌<◌, ◌≤◌, ◌+◌, ℕ, List, [], length, take, Option, Some, refl, sym, ap, subst, ◌∙◌, arith}
+use Rattle.std.proofs.Common.{◌≡◌, ◌⊎◌, inl, inr, ◌<◌, ◌≤◌, ◌+◌, ℕ, List, [], length, take, Option, None, Some, refl, sym, ap, subst, ◌∙◌, arith}
 use Rattle.std.specs.Io.KnownBytes.{Consumes, Appends, IsAtEnd}
 use Rattle.std.proofs.KnownBytes.{Consumes-all}
 use Rattle.std.proofs.lemmas.List.{length-append}
@@ -128,4 +128,4 @@ unread left source_faults taken sink_faults P source source' sink status bounded
     memory_or_write : NoMemory ≡ WriteFault → ⊥
     memory_or_write e = cc
     counted : (input : List ℕ) → left source ≡ Some input → length input ≤ input_limit → ReadsCount (input_limit + 1) (left source) (left source') → ⊥
-    counted input told short r = too_many (left source) (left source') input told short r.0 r.1.0 r.1.1
+    counted input told short r = too_many (left source) (left source') input told short r.0 r.1 r.2

@@ -1,10 +1,14 @@
 -- What is so of an input that is run.
 use Rattle.std.proofs.Common.{◌≡◌, ◌≤◌, ℕ, ◌+◌, Bool, true, false, List, [], ◌∷◌, ◌++◌, length, refl, sym, ap, subst, ◌∙◌, arith, Option, Some, None, Result, Ok, Err, All}
-use Rattle.std.specs.Prelude.{codes, fold, map, ◌&&◌, nat_lt, nat_le, if◌then◌else◌}
+use Rattle.std.specs.Prelude.{codes, fold, map, not, take_while, ◌&&◌, nat_lt, nat_le, if◌then◌else◌, ◌^◌}
+use Rattle.std.specs.List.{slice_split, slice_index_or}
+use Rattle.std.proofs.lemmas.List.{length-map}
+use Rattle.std.proofs.lemmas.List.Splits.{length-slice_split}
+use Rattle.std.proofs.lemmas.List.Sums.{count_by-le-length}
 use Rattle.std.specs.Str.{is_utf8}
 use Rattle.std.specs.Str.Parse.{digits_value}
 use Rattle.std.proofs.lemmas.Bool.{le-leb, leb-true, ltb-false}
-use Rattle.byte_ends.specs.Text.{lines, words}
+use Rattle.byte_ends.specs.Text.{lines, words, whole_lines, is_newline, strip_return, IsNumber}
 use Rattle.unix_calls.specs.declared.Turn.{Turn}
 use Rattle.unix_calls.specs.declared.Turn.TheVariants.{Go, Push, Take, Auto}
 use Rattle.unix_calls.specs.declared.World.{World}
@@ -16,7 +20,7 @@ use Rattle.script_reader.specs.Lines.{is_skipped}
 use Rattle.script_reader.specs.declared.faults.Kind.TheVariants.{NotUtf8, TooManyTurns}
 use Rattle.script_reader.specs.declared.faults.Kind.TheVariants.{UnknownWord}
 use Rattle.script_reader.specs.Files.{fault_at, read_part}
-use Rattle.file_parts.specs.Parts.{world_lines, front_lines, schedule_lines, history_lines}
+use Rattle.file_parts.specs.Parts.{is_only, world_lines, front_lines, schedule_lines, history_lines}
 use Rattle.unix_calls.specs.declared.Entry.{Entry}
 use Rattle.unix_calls.specs.declared.Entry.TheVariants.{Called, Happened}
 use Rattle.unix_calls.specs.declared.Call.TheVariants as calls
@@ -27,7 +31,9 @@ use Rattle.script_laws.specs.Grammar.{Naming, IsFor, Part, silent, opens, IsFile
 use Rattle.script_laws.proofs.Words.{words_same}
 use Rattle.script_laws.proofs.Exact.{read_is_file}
 use Rattle.run_text.specs.Schedule.{SoFar, turns_in, added, after_line, turns_of, turn_of, read_turn, counted, schedule}
-use Rattle.cluster_core.specs.Run.{turn_count, total_turns}
+use Rattle.cluster_core.specs.Run.{run, turn_count, total_turns}
+use Rattle.cluster_laws.proofs.Runs.{run_whole}
+use Rattle.cluster_cli.specs.Ends.{input_limit}
 use Rattle.cluster_laws.specs.Laws.{CanRun}
 use Rattle.cluster_cli.specs.declared.input.Given.{Given}
 use Rattle.cluster_cli.specs.Input.{asks_many, is_many, many_nodes, meaning, with_schedule, with_turns, turns_given, refused_history, without_history, least, on_one_node, runnable}
@@ -80,8 +86,8 @@ same_count (Push n k) = refl
 same_count (Take n m) = refl
 same_count (Auto k) = refl
 
-ok_same : {A E : Type 0} (x y : A) → Ok {E = E} x ≡ Ok y → x ≡ y
-ok_same x y e = cc
+ok_same : {A E : Type 0} (r : Result A E) (x y : A) → r ≡ Ok x → r ≡ Ok y → x ≡ y
+ok_same r x y e e' = cc
 
 err_ok : {A E : Type 0} (x : E) (y : A) → Err x ≡ Ok y → ⊥
 err_ok x y e = cc
@@ -93,8 +99,8 @@ counted_few : (before : ℕ) (turn turn' : Turn) → counted before turn ≡ Ok 
 unfolding counted
 counted_few before turn turn' e = go (nat_le (before + turns_in turn) 200000) refl e
   where
-    go : (b : Bool) → nat_le (before + turns_in turn) 200000 ≡ b → (if b then Ok {E = Kind} (Some turn) else Err TooManyTurns) ≡ Ok (Some turn') → before + turns_in turn' ≤ 200000
-    go true h e' = subst (λ t. before + turns_in t ≤ 200000) (some_same turn turn' (ok_same (Some turn) (Some turn') e')) (leb-true (before + turns_in turn) 200000 h)
+    go : (b : Bool) → nat_le (before + turns_in turn) 200000 ≡ b → (if b then Ok (Some turn) else Err TooManyTurns) ≡ Ok (Some turn') → before + turns_in turn' ≤ 200000
+    go true h e' = subst (λ t. before + turns_in t ≤ 200000) (some_same turn turn' (ok_same _ (Some turn) (Some turn') refl e')) (leb-true (before + turns_in turn) 200000 h)
     go false h e' = absurd (err_ok TooManyTurns (Some turn') e')
 
 read_few : (nodes before : ℕ) (line : List ℕ) (turn : Turn) → read_turn nodes before line ≡ Ok (Some turn) → before + turns_in turn ≤ 200000
@@ -106,10 +112,10 @@ read_few nodes before line turn e = at_text (is_utf8 line) e
     at_turn (Err kind) e' = absurd (err_ok kind (Some turn) e')
     none_some : None ≡ Some turn → ⊥
     none_some h = cc
-    at_words : (b : Bool) → (if b then Ok {E = Kind} None else (turn_of nodes (words line) >>= λ t. counted before t)) ≡ Ok (Some turn) → before + turns_in turn ≤ 200000
-    at_words true e' = absurd (none_some (ok_same None (Some turn) e'))
+    at_words : (b : Bool) → (if b then Ok None else (turn_of nodes (words line) >>= λ t. counted before t)) ≡ Ok (Some turn) → before + turns_in turn ≤ 200000
+    at_words true e' = absurd (none_some (ok_same _ None (Some turn) refl e'))
     at_words false e' = at_turn (turn_of nodes (words line)) e'
-    at_text : (b : Bool) → (if b then (if is_skipped (words line) then Ok {E = Kind} None else (turn_of nodes (words line) >>= λ t. counted before t)) else Err NotUtf8) ≡ Ok (Some turn) → before + turns_in turn ≤ 200000
+    at_text : (b : Bool) → (if b then (if is_skipped (words line) then Ok None else (turn_of nodes (words line) >>= λ t. counted before t)) else Err NotUtf8) ≡ Ok (Some turn) → before + turns_in turn ≤ 200000
     at_text true e' = at_words (is_skipped (words line)) e'
     at_text false e' = absurd (err_ok NotUtf8 (Some turn) e')
 
@@ -117,20 +123,22 @@ fault_stays : (nodes : ℕ) (fault : Fault) (ls : List (List ℕ)) → fold (aft
 fault_stays nodes fault [] = refl
 fault_stays nodes fault (l ∷ ls) = fault_stays nodes fault ls
 
+step_on : (nodes : ℕ) (ls : List (List ℕ)) (s s' : SoFar) → ((t : SoFar) → IsCounted t → fold (after_line nodes) (Ok t) ls ≡ Ok s' → IsCounted s') → IsCounted s
+    → (r : Result (Option Turn) Kind) → ((turn : Turn) → r ≡ Ok (Some turn) → s.count + turns_in turn ≤ 200000) → fold (after_line nodes) (added s r) ls ≡ Ok s' → IsCounted s'
+step_on nodes ls s s' rest c (Err kind) few e =
+    absurd (err_ok (record { line = s.number; kind = kind }) s' (sym (fault_stays nodes (record { line = s.number; kind = kind }) ls) ∙ e))
+step_on nodes ls s s' rest c (Ok None) few e = rest (record { turns = s.turns; count = s.count; number = s.number + 1 }) (record { count = c.count; few = c.few }) e
+step_on nodes ls s s' rest c (Ok (Some turn)) few e =
+    rest (record { turns = s.turns ++ turn ∷ []; count = s.count + turns_in turn; number = s.number + 1 })
+        (record { count = total_more s.turns turn ∙ ap (λ n. n + turn_count turn) c.count ∙ ap (λ n. s.count + n) (sym (same_count turn)); few = few turn refl }) e
+
 counted_on : (nodes : ℕ) (ls : List (List ℕ)) (s s' : SoFar) → IsCounted s → fold (after_line nodes) (Ok s) ls ≡ Ok s' → IsCounted s'
-counted_on nodes [] s s' c e = subst IsCounted (ok_same s s' e) c
-counted_on nodes (l ∷ ls) s s' c e = go (read_turn nodes s.count l) refl
-  where
-    now : (r : Result (Option Turn) Kind) → read_turn nodes s.count l ≡ r → fold (after_line nodes) (added s r) ls ≡ Ok s'
-    now r h = subst (λ (x : Result (Option Turn) Kind). fold (after_line nodes) (added s x) ls ≡ Ok s') h e
-    go : (r : Result (Option Turn) Kind) → read_turn nodes s.count l ≡ r → IsCounted s'
-    go (Err kind) h = absurd (err_ok (record { line = s.number; kind = kind }) s' (sym (fault_stays nodes (record { line = s.number; kind = kind }) ls) ∙ now (Err kind) h))
-    go (Ok None) h = counted_on nodes ls (record { turns = s.turns; count = s.count; number = s.number + 1 }) s' (record { count = c.count; few = c.few }) (now (Ok None) h)
-    go (Ok (Some turn)) h = counted_on nodes ls (record { turns = s.turns ++ turn ∷ []; count = s.count + turns_in turn; number = s.number + 1 }) s'
-        (record { count = total_more s.turns turn ∙ ap (λ n. n + turn_count turn) c.count ∙ ap (λ n. s.count + n) (sym (same_count turn)); few = read_few nodes s.count l turn h }) (now (Ok (Some turn)) h)
+counted_on nodes [] s s' c e = subst IsCounted (ok_same _ s s' refl e) c
+counted_on nodes (l ∷ ls) s s' c e =
+    step_on nodes ls s s' (λ t ct et. counted_on nodes ls t s' ct et) c (read_turn nodes s.count l) (λ turn h. read_few nodes s.count l turn h) e
 
 turns_of_ok : (r : Result SoFar Fault) (turns : List Turn) → turns_of r ≡ Ok turns → (s : SoFar) × (r ≡ Ok s) × (s.turns ≡ turns)
-turns_of_ok (Ok s) turns e = (s, refl, ok_same s.turns turns e)
+turns_of_ok (Ok s) turns e = (s, refl, ok_same _ s.turns turns refl e)
 turns_of_ok (Err fault) turns e = absurd (err_ok fault turns e)
 
 -- a schedule that is read stands for at most 200,000 turns
@@ -139,16 +147,16 @@ unfolding schedule
 few_turns nodes number ls turns e =
     let first : SoFar = record { turns = []; count = 0; number = number } in
     let last = turns_of_ok (fold (after_line nodes) (Ok first) ls) turns e in
-    let c = counted_on nodes ls first last.0 (record { count = refl; few = omega arith }) last.1.0 in
-    subst (λ ts. total_turns ts ≤ 200000) last.1.1 (subst (λ n. n ≤ 200000) (sym c.count) c.few)
+    let c = counted_on nodes ls first last.0 (record { count = refl; few = omega arith }) last.1 in
+    subst (λ ts. total_turns ts ≤ 200000) last.2 (subst (λ n. n ≤ 200000) (sym c.count) c.few)
 
 few_given : (nodes number : ℕ) (ls : Option (List (List ℕ))) (turns : List Turn) → turns_given nodes number ls ≡ Ok turns → total_turns turns ≤ 200000
-few_given nodes number None turns e = subst (λ ts. total_turns ts ≤ 200000) (ok_same (Auto 200000 ∷ []) turns e) (omega arith)
+few_given nodes number None turns e = subst (λ ts. total_turns ts ≤ 200000) (ok_same _ (Auto 200000 ∷ []) turns refl e) (omega arith)
 few_given nodes number (Some ls) turns e = few_turns nodes number ls turns e
 
 -- ---- an input that is run
 with_turns_ok : (world : World) (r : Result (List Turn) Fault) (g : Given) → with_turns world r ≡ Ok g → (g.world ≡ world) × (r ≡ Ok g.turns)
-with_turns_ok world (Ok turns) g e = (ap (λ (x : Given). x.world) (sym (ok_same _ g e)), ap (λ (x : Given). Ok x.turns) (ok_same _ g e))
+with_turns_ok world (Ok turns) g e = (ap (λ (x : Given). x.world) (sym (ok_same _ _ g refl e)), ap (λ (x : Given). Ok x.turns) (ok_same _ _ g refl e))
 with_turns_ok world (Err fault) g e = absurd (err_ok fault g e)
 
 given_ok : (ls : List (List ℕ)) (r : Result World Fault) (g : Given) → with_schedule ls r ≡ Ok g → (r ≡ Ok g.world) × (total_turns g.turns ≤ 200000)
@@ -157,12 +165,12 @@ given_ok ls (Ok world) g e =
     (ap (λ (w : World). Ok w) (sym t.0), few_given world.nodes (2 + length (world_lines ls)) (schedule_lines ls) g.turns t.1)
 given_ok ls (Err fault) g e = absurd (err_ok fault g e)
 
-refused_ok : (number : ℕ) (g g' : Given) (ls : Option (List (List ℕ))) → refused_history number g ls ≡ Ok g' → Ok {E = Fault} g ≡ Ok g'
-refused_ok number g g' None e = e
-refused_ok number g g' (Some ls) e = absurd (err_ok (fault_at number UnknownWord) g' e)
+refused_ok : (number : ℕ) (g g' : Given) (ls : Option (List (List ℕ))) (r : Result Given Fault) → r ≡ Ok g → refused_history number g ls ≡ Ok g' → r ≡ Ok g'
+refused_ok number g g' None r h e = h ∙ e
+refused_ok number g g' (Some ls) r h e = absurd (err_ok (fault_at number UnknownWord) g' e)
 
 without_ok : (ls : List (List ℕ)) (r : Result Given Fault) (g : Given) → without_history ls r ≡ Ok g → r ≡ Ok g
-without_ok ls (Ok g') g e = refused_ok (1 + length (front_lines ls)) g' g (history_lines ls) e
+without_ok ls (Ok g') g e = refused_ok (1 + length (front_lines ls)) g' g (history_lines ls) (Ok g') refl e
 without_ok ls (Err fault) g e = absurd (err_ok fault g e)
 
 on_one_ok : (many : Option ℕ) (r : Result Given Fault) (g : Given) → on_one_node many r ≡ Ok g → (many ≡ None) × (r ≡ Ok g)
@@ -188,3 +196,65 @@ pub is_entry : (entry : Entry) → IsWhole entry → IsEntry entry
 is_entry (Called caller (calls.Exit n) reply) h = h
 is_entry (Called caller call reply) h = h
 is_entry (Happened pid event) h = h
+
+all_entries : (es : List Entry) → All IsWhole es → All IsEntry es
+all_entries es h = λ k d lt. is_entry (slice_index_or es k d) (h k d lt)
+
+-- the entries of a run are ones that are written
+pub run_entries : (world : World) (turns : List Turn) → CanRun world turns → All IsEntry (run world turns).history
+run_entries world turns can = all_entries (run world turns).history (run_whole world turns can)
+
+-- the world of an input can be run
+pub meaning_valid : (input : List ℕ) (g : Given) → meaning input ≡ Ok g → IsValid g.world
+meaning_valid input g e = (read_is_file 1 (world_lines (lines input)) g.world (given_ok (lines input) (read_part 1 (world_lines (lines input))) g e).0).valid
+
+-- ---- a word that asks for more than one node
+pub many_is : (word : List ℕ) (n : ℕ) → IsNumber word → n ≡ digits_value 10 word → is_many n ≡ (is_number word && is_many (digits_value 10 word))
+many_is word n h e = ap is_many e ∙ sym (ap (λ b. b && is_many (digits_value 10 word)) ((is_number-decides word).1 h))
+
+pub none_many : (word : List ℕ) → (IsNumber word → ⊥) → false ≡ (is_number word && is_many (digits_value 10 word))
+none_many word h = go (is_number word) refl
+  where
+    go : (b : Bool) → is_number word ≡ b → false ≡ (b && is_many (digits_value 10 word))
+    go true e = absurd (h ((is_number-decides word).0 e))
+    go false e = refl
+
+-- ---- the numbers of lines
+whole_few : (parts : List (List ℕ)) → length (whole_lines parts) ≤ length parts
+whole_few [] = omega arith
+whole_few ([] ∷ []) = omega arith
+whole_few ((b ∷ bs) ∷ []) = omega arith
+whole_few (part ∷ next ∷ parts) = let rest = whole_few (next ∷ parts) in omega (arith, rest)
+
+lines_few : (bytes : List ℕ) → length (lines bytes) ≤ length bytes + 1
+lines_few bytes =
+    let parts = slice_split is_newline bytes in
+    let mapped = length-map strip_return (whole_lines parts) in
+    let whole = whole_few parts in
+    let split = length-slice_split is_newline bytes in
+    let counted = count_by-le-length is_newline bytes in
+    omega (arith, mapped, whole, split, counted)
+
+cons_few : (b : Bool) (l : List ℕ) (rest ls : List (List ℕ)) → length rest ≤ length ls → length (if b then l ∷ rest else []) ≤ length (l ∷ ls)
+cons_few true l rest ls h = omega (arith, h)
+cons_few false l rest ls h = omega arith
+
+taken_few : (test : List ℕ → Bool) (ls : List (List ℕ)) → length (take_while test ls) ≤ length ls
+taken_few test [] = omega arith
+taken_few test (l ∷ ls) = cons_few (test l) l (take_while test ls) ls (taken_few test ls)
+
+front_few : (input : List ℕ) → length input ≤ input_limit → length (front_lines (lines input)) ≤ 1048577
+front_few input short =
+    let all = lines_few input in
+    let front = taken_few (λ l. not (is_only (codes "history") l)) (lines input) in
+    omega (arith, short, all, front)
+
+-- the number of the first line of a schedule, and of a history
+pub schedule_first : (input : List ℕ) → length input ≤ input_limit → 2 + length (world_lines (lines input)) ≤ 2 ^ 31
+schedule_first input short =
+    let front = front_few input short in
+    let world = taken_few (λ l. not (is_only (codes "schedule") l)) (front_lines (lines input)) in
+    omega (arith, front, world)
+
+pub history_first : (input : List ℕ) → length input ≤ input_limit → 2 + length (front_lines (lines input)) ≤ 2 ^ 31
+history_first input short = let front = front_few input short in omega (arith, front)

@@ -18,10 +18,10 @@ pub record IsWithin (nodes size : ℕ) : Type 0 where
   pub few : size ≤ 200
 
 -- the words are the numbers of a load
-pub record IsLoad (seed nodes size : List ℕ) (load : Load) : Type 0 where
-  pub seed : Spells seed load.seed
-  pub nodes : Spells nodes load.nodes
-  pub size : Spells size load.size
+pub record IsLoad (seed_word nodes_word size_word : List ℕ) (load : Load) : Type 0 where
+  pub seed : Spells seed_word load.seed
+  pub nodes : Spells nodes_word load.nodes
+  pub size : Spells size_word load.size
   pub within : IsWithin load.nodes load.size
 
 -- the words are the numbers of some load

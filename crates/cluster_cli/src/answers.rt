@@ -46,6 +46,7 @@ pub fn replay(alloc: Global, input: &[u8]) -> Result<Answer, NoMemory>
     }
 }
 
+#[tactic(auto, using(crate::proofs::Runs::run_entries))]
 fn ran(alloc: Global, given: &Given) -> Result<Answer, NoMemory>
     requires { CanRun given.now.world given.now.turns }
     ensures done { IfOk result (λ a. a.status ≡ Status.Done) }
@@ -98,6 +99,7 @@ pub fn audit(alloc: Global, input: &[u8]) -> Result<Answer, NoMemory>
 }
 
 // What is said of the history of an input that has this meaning.
+#[tactic(auto, using(crate::proofs::Runs::meaning_valid, crate::proofs::Histories::has_names))]
 fn heard(alloc: Global, input: &[u8], parts: &Parts, given: &Given) -> Result<Answer, NoMemory>
     requires short { length input.now ≤ input_limit }
     requires parts { AreParts input.now parts.now }
@@ -129,6 +131,7 @@ fn judged(alloc: Global, world: &World, entries: &[Entry]) -> Result<Answer, NoM
 }
 
 // A history part's entries; without one there are none.
+#[tactic(auto, using(crate::proofs::Runs::history_first))]
 fn history_given(alloc: Global, input: &[u8], part: Option<Span>) -> Result<Vec<Entry>, TextRefusal>
     requires short { length input.now ≤ input_limit }
     requires part { IsPartOf input.now (history_lines (lines input.now)) (2 + length (front_lines (lines input.now))) part }

@@ -67,6 +67,7 @@ pub fn read_given(alloc: Global, input: &[u8], parts: &Parts) -> Result<Given, R
     Ok(Given { world, turns })
 }
 
+#[tactic(auto, using(crate::proofs::Runs::schedule_first))]
 fn turns_given(
     alloc: Global,
     input: &[u8],
@@ -137,7 +138,7 @@ fn asks_many(words: &[&[u8]]) -> bool
     ensures { result ≡ spec.asks_many (map (λ w. w.now) words.now) }
 {
     match words {
-        [word, number] => is_word(word, "cluster") && is_many(number),
+        [word, number] => is_word(word, "cluster") && names_many(number),
         _ => false,
     }
 }
@@ -149,12 +150,19 @@ fn is_word(word: &[u8], text: &str) -> bool
     word == text.as_bytes()
 }
 
-#[tactic(auto, unfolding(script_reader::specs::Words::is_number))]
-fn is_many(number: &[u8]) -> bool
+// Whether a word is the number of more than one node.
+#[tactic(auto, using(crate::proofs::Runs::many_is, crate::proofs::Runs::none_many))]
+fn names_many(number: &[u8]) -> bool
     ensures { result ≡ (is_number number.now && spec.is_many (digits_value 10 number.now)) }
 {
     match number_at(number) {
-        Some(nodes) => 1 < nodes && nodes <= MOST_NODES,
+        Some(nodes) => is_many(nodes),
         None => false,
     }
+}
+
+fn is_many(nodes: u32) -> bool
+    ensures { result ≡ spec.is_many nodes }
+{
+    1 < nodes && nodes <= MOST_NODES
 }
