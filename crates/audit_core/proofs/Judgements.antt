@@ -1,5 +1,5 @@
 -- A history has one judgement.
-use Rattle.std.proofs.Common.{◌≡◌, ◌<◌, ℕ, zero, suc, List, [], ◌∷◌, ◌++◌, take, length, Option, Some, slice_get, ◌⊎◌, inl, inr, ◌∙◌, refl, sym, ap, subst, arith}
+use Rattle.std.proofs.Common.{◌≡◌, ◌<◌, ℕ, zero, suc, List, [], ◌∷◌, ◌++◌, take, Some, slice_get, inl, inr, ◌∙◌, refl, sym, ap, subst, arith}
 use Rattle.std.proofs.lemmas.Bool.{cases_order}
 use Rattle.std.proofs.lemmas.List.{take-take}
 use Rattle.unix_calls.specs.declared.Entry.{Entry}
@@ -11,7 +11,7 @@ use Rattle.kernel_model.specs.declared.Verdict.{Verdict}
 use Rattle.kernel_model.specs.declared.Verdict.TheVariants as kernel
 use Rattle.kernel_model.specs.Step.{verdict, after}
 use Rattle.kernel_model.specs.Legal.{boot, after_entries, after_all, IsLegalFrom, IsLegal}
-use Rattle.proc_image.specs.Follows.{Running, first_running, after_entry, IsInOrder, Follows}
+use Rattle.proc_image.specs.Follows.{Running, first_running, after_entry, Follows}
 use Rattle.proc_image.proofs.FollowsLaws.{FollowsFrom-at, FollowsFrom-push, after_entries-push as running-push}
 use Rattle.audit_core.specs.declared.judge.Judged.{Judged}
 use Rattle.audit_core.specs.declared.judge.Judged.TheVariants.{Legal, IllegalAt}

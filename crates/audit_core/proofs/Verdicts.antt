@@ -1,8 +1,6 @@
 -- The kernel's verdict and the rules of one entry.
-use Rattle.std.proofs.Common.{◌≡◌, ◌≢◌, ◌<◌, ◌≤◌, ◌↔◌, ℕ, Bool, true, false, cond, not, IsTrue, List, Option, None, Some, ◌∙◌, refl, sym, ap, subst, arith, lit≤}
+use Rattle.std.proofs.Common.{◌≡◌, ◌≢◌, ◌<◌, ◌≤◌, ◌↔◌, Bool, true, false, cond, not, IsTrue, List, Option, None, Some, ◌∙◌, refl, sym, ap, subst, arith, lit≤}
 use Rattle.unix_names.specs.States.{is_living}
-use Rattle.unix_calls.specs.declared.Call.{Call}
-use Rattle.unix_calls.specs.declared.Reply.{Reply}
 use Rattle.unix_calls.specs.declared.Event.{Event}
 use Rattle.unix_calls.specs.declared.Event.TheVariants.{Caught, Discarded, StoppedBy, EndedBy, Continued, Moved}
 use Rattle.unix_calls.specs.declared.Entry.{Entry}
@@ -17,7 +15,7 @@ use Rattle.kernel_rules.specs.Rows.{row_of}
 use Rattle.kernel_rules.specs.Replies.{allows}
 use Rattle.kernel_rules.specs.Conditions.{can_call, may_happen}
 use Rattle.kernel_model.specs.Sound.{IsAlive}
-use Rattle.kernel_model.specs.Step.{call_verdict, event_verdict, row_verdict, process_of, verdict_at, verdict}
+use Rattle.kernel_model.specs.Step.{event_verdict, row_verdict, process_of, verdict_at, verdict}
 use Rattle.proc_image.specs.Follows.{Running, IsInOrder}
 use Rattle.audit_core.specs.Judge.{BreaksAt, place_of, with_order, IsFirstRuleAt, IsVerdictAt}
 

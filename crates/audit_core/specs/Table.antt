@@ -1,5 +1,5 @@
 -- how far each process is, as a table of images tells it
-use Rattle.std.specs.Prelude.{◌≡◌, ◌==◌, ℕ, List, Option, None, Some, option_map, find}
+use Rattle.std.specs.Prelude.{◌≡◌, ◌==◌, List, Option, None, Some, option_map, find}
 use Rattle.unix_names.specs.declared.Pid.{Pid}
 use Rattle.unix_calls.specs.declared.Start.{Start}
 use Rattle.unix_calls.specs.declared.World.{World}

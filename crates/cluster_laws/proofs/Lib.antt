@@ -14,3 +14,13 @@ pub mod Played
 pub mod Turns
 pub mod First
 pub mod Runs
+pub mod Members
+pub mod Unsent
+pub mod Alike
+pub mod Listing
+pub mod Waits
+pub mod Parking
+pub mod Resting
+pub mod Rested
+pub mod Parked
+pub mod Finishing

@@ -5,8 +5,10 @@ use Rattle.unix_calls.specs.declared.World.{World}
 use Rattle.unix_calls.specs.Valid.{IsValid}
 use Rattle.proc_image.specs.Follows.{Follows}
 use Rattle.kernel_model.specs.Legal.{after_all, IsLegal}
-use Rattle.cluster_core.specs.Run.{run, total_turns}
+use Rattle.cluster_core.specs.Run.{run, IsQuiet, total_turns}
+use Rattle.audit_core.specs.Finished.{IsFinished}
 use Rattle.cluster_laws.specs.Stands.{IsWhole, Stands}
+use Rattle.cluster_laws.specs.Rests.{Rests}
 
 -- a valid world of one node, and a schedule of at most 200,000 turns
 pub record CanRun (world : World) (turns : List Turn) : Type 0 where
@@ -33,3 +35,11 @@ TablesAreAfterAll = (world : World) (turns : List Turn) → CanRun world turns �
 -- after each schedule the node is as it is to stand between two turns
 abbrev pub RunsStand : Type 0
 RunsStand = (world : World) (turns : List Turn) → CanRun world turns → Stands world (run world turns)
+
+-- after each schedule every group lists its members, and who is parked stays stopped or sleeps on
+abbrev pub RunsRest : Type 0
+RunsRest = (world : World) (turns : List Turn) → CanRun world turns → Rests world (run world turns)
+
+-- where the queue is empty after a schedule, nothing is left to do: each living process stays stopped, or sleeps in a wait
+abbrev pub QuietRunsFinish : Type 0
+QuietRunsFinish = (world : World) (turns : List Turn) → CanRun world turns → IsQuiet (run world turns) → IsFinished world (run world turns).history
