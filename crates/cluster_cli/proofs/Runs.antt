@@ -2,7 +2,8 @@
 use Rattle.std.proofs.Common.{◌≡◌, ◌≤◌, ℕ, ◌+◌, Bool, true, false, List, [], ◌∷◌, ◌++◌, length, refl, sym, ap, subst, ◌∙◌, arith, Option, Some, None, Result, Ok, Err, All}
 use Rattle.std.specs.Prelude.{codes, fold, map, not, take_while, ◌&&◌, nat_lt, nat_le, if◌then◌else◌, ◌^◌}
 use Rattle.std.specs.List.{slice_split, slice_index_or}
-use Rattle.std.proofs.lemmas.List.{length-map}
+use Rattle.std.specs.List.{prefix_len}
+use Rattle.std.proofs.lemmas.List.{length-map, length-take}
 use Rattle.std.proofs.lemmas.List.Splits.{length-slice_split}
 use Rattle.std.proofs.lemmas.List.Sums.{count_by-le-length}
 use Rattle.std.specs.Str.{is_utf8}
@@ -32,11 +33,13 @@ use Rattle.script_laws.proofs.Words.{words_same}
 use Rattle.script_laws.proofs.Exact.{read_is_file}
 use Rattle.run_text.specs.Schedule.{SoFar, turns_in, added, after_line, turns_of, turn_of, read_turn, counted, schedule}
 use Rattle.cluster_core.specs.Run.{run, turn_count, total_turns}
-use Rattle.cluster_laws.proofs.Runs.{run_whole}
+use Rattle.cluster_laws.proofs.Runs.{run_legal, run_follows, run_whole}
+use Rattle.cluster_laws.proofs.Finishing.{quiet_finished}
+use Rattle.cluster_cli.specs.Replay.{run_text, Runs}
 use Rattle.cluster_cli.specs.Ends.{input_limit}
 use Rattle.cluster_laws.specs.Laws.{CanRun}
 use Rattle.cluster_cli.specs.declared.input.Given.{Given}
-use Rattle.cluster_cli.specs.Input.{asks_many, is_many, many_nodes, meaning, with_schedule, with_turns, turns_given, refused_history, without_history, least, on_one_node, runnable}
+use Rattle.cluster_cli.specs.Input.{asks_many, is_many, many_nodes, meaning, with_schedule, with_turns, turns_given, refused_history, without_history, least, on_one_node, runnable, fault_text, Refuses}
 
 -- ---- one node
 some_none : (n : ℕ) → Some n ≡ None → ⊥
@@ -229,19 +232,14 @@ whole_few (part ∷ next ∷ parts) = let rest = whole_few (next ∷ parts) in o
 lines_few : (bytes : List ℕ) → length (lines bytes) ≤ length bytes + 1
 lines_few bytes =
     let parts = slice_split is_newline bytes in
-    let mapped = length-map strip_return (whole_lines parts) in
+    let mapped = length-map (whole_lines parts) strip_return in
     let whole = whole_few parts in
     let split = length-slice_split is_newline bytes in
     let counted = count_by-le-length is_newline bytes in
     omega (arith, mapped, whole, split, counted)
 
-cons_few : (b : Bool) (l : List ℕ) (rest ls : List (List ℕ)) → length rest ≤ length ls → length (if b then l ∷ rest else []) ≤ length (l ∷ ls)
-cons_few true l rest ls h = omega (arith, h)
-cons_few false l rest ls h = omega arith
-
 taken_few : (test : List ℕ → Bool) (ls : List (List ℕ)) → length (take_while test ls) ≤ length ls
-taken_few test [] = omega arith
-taken_few test (l ∷ ls) = cons_few (test l) l (take_while test ls) ls (taken_few test ls)
+taken_few test ls = let taken = length-take (prefix_len test ls) ls in omega (arith, taken)
 
 front_few : (input : List ℕ) → length input ≤ input_limit → length (front_lines (lines input)) ≤ 1048577
 front_few input short =
@@ -258,3 +256,17 @@ schedule_first input short =
 
 pub history_first : (input : List ℕ) → length input ≤ input_limit → 2 + length (front_lines (lines input)) ≤ 2 ^ 31
 history_first input short = let front = front_few input short in omega (arith, front)
+
+-- what is said of an input that is run, and of one with a fault
+pub runs_made : (input : List ℕ) (g : Given) (text : List ℕ) → runnable input ≡ Ok g → text ≡ run_text (run g.world g.turns) → Runs input text
+runs_made input g text reads writes = record {
+  given = g;
+  reads = reads;
+  legal = run_legal g.world g.turns (can_run input g reads);
+  follows = run_follows g.world g.turns (can_run input g reads);
+  finished = quiet_finished g.world g.turns (can_run input g reads);
+  writes = writes;
+}
+
+pub refuses_made : (reading : List ℕ → Result Given Fault) (input : List ℕ) (fault : Fault) (text : List ℕ) → reading input ≡ Err fault → text ≡ fault_text fault → Refuses reading input text
+refuses_made reading input fault text refused writes = record { fault = fault; refused = refused; writes = writes }

@@ -5,7 +5,8 @@ use Rattle.kernel_model.specs.Legal.{IsLegal}
 use Rattle.proc_image.specs.Follows.{Follows}
 use Rattle.run_text.specs.History.{text}
 use Rattle.cluster_core.specs.declared.played.Played.{Played}
-use Rattle.cluster_core.specs.Run.{run}
+use Rattle.cluster_core.specs.Run.{run, IsQuiet}
+use Rattle.audit_core.specs.Finished.{IsFinished}
 use Rattle.cluster_cli.specs.declared.status.Status.{Status}
 use Rattle.cluster_cli.specs.declared.status.Status.TheVariants.{Done, BadFile}
 use Rattle.cluster_cli.specs.Ends.{Texts}
@@ -27,6 +28,8 @@ pub record Runs (input output : List ℕ) : Type 0 where
   pub reads : runnable input ≡ Ok given
   pub legal : IsLegal given.world (run given.world given.turns).history
   pub follows : Follows given.world (run given.world given.turns).history
+  -- `quiet` is said only where the kernel has nothing left to do
+  pub finished : IsQuiet (run given.world given.turns) → IsFinished given.world (run given.world given.turns).history
   pub writes : output ≡ run_text (run given.world given.turns)
 
 -- the text of the run, or what is said of the least fault

@@ -41,34 +41,31 @@ pub fn replay(alloc: Global, input: &[u8]) -> Result<Answer, NoMemory>
 {
     match read_runnable(alloc, input) {
         Err(ReadRefusal::NoMemory) => Err(NoMemory),
-        Err(ReadRefusal::Bad(fault)) => refused(alloc, &fault),
-        Ok(given) => ran(alloc, &given),
+        Err(ReadRefusal::Bad(fault)) => {
+            let text = fault_text(alloc, &fault)?;
+            Ok(Answer {
+                status: Status::BadFile,
+                text,
+            })
+        }
+        Ok(given) => {
+            let text = history_text(alloc, &given)?;
+            Ok(Answer {
+                status: Status::Done,
+                text,
+            })
+        }
     }
 }
 
+// The history of a run, as text.
 #[tactic(auto, using(crate::proofs::Runs::run_entries))]
-fn ran(alloc: Global, given: &Given) -> Result<Answer, NoMemory>
+fn history_text(alloc: Global, given: &Given) -> Result<Vec<u8>, NoMemory>
     requires { CanRun given.now.world given.now.turns }
-    ensures done { IfOk result (λ a. a.status ≡ Status.Done) }
-    ensures text { IfOk result (λ a. a.text.items ≡ run_text (run given.now.world given.now.turns)) }
+    ensures { IfOk result (λ text. text.items ≡ run_text (run given.now.world given.now.turns)) }
 {
     let run = run(alloc, &given.world, given.turns.as_slice())?;
-    let text = put_history(alloc, run.entries.as_slice(), run.is_quiet)?;
-    Ok(Answer {
-        status: Status::Done,
-        text,
-    })
-}
-
-fn refused(alloc: Global, fault: &Fault) -> Result<Answer, NoMemory>
-    ensures bad { IfOk result (λ a. a.status ≡ Status.BadFile) }
-    ensures text { IfOk result (λ a. a.text.items ≡ fault_text fault.now) }
-{
-    let text = fault_text(alloc, fault)?;
-    Ok(Answer {
-        status: Status::BadFile,
-        text,
-    })
+    put_history(alloc, run.entries.as_slice(), run.is_quiet)
 }
 
 fn fault_text(alloc: Global, fault: &Fault) -> Result<Vec<u8>, AllocError>
@@ -93,7 +90,13 @@ pub fn audit(alloc: Global, input: &[u8]) -> Result<Answer, NoMemory>
     let parts = split(input);
     match read_given(alloc, input, &parts) {
         Err(ReadRefusal::NoMemory) => Err(NoMemory),
-        Err(ReadRefusal::Bad(fault)) => refused(alloc, &fault),
+        Err(ReadRefusal::Bad(fault)) => {
+            let text = fault_text(alloc, &fault)?;
+            Ok(Answer {
+                status: Status::BadFile,
+                text,
+            })
+        }
         Ok(given) => heard(alloc, input, &parts, &given),
     }
 }
