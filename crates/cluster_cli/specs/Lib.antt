@@ -1,2 +1,7 @@
 pub mod Status
+pub mod Ends
+pub mod Commands
+pub mod Reading
+pub mod Input
 pub mod Replay
+pub mod Audit

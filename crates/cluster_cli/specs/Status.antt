@@ -1,6 +1,6 @@
 use Rattle.std.specs.Prelude.{ℕ}
 use Rattle.cluster_cli.specs.declared.status.Status.{Status}
-use Rattle.cluster_cli.specs.declared.status.Status.TheVariants.{Done, BadWords, BadFile, ReadFault, WriteFault, NoMemory, TooLong}
+use Rattle.cluster_cli.specs.declared.status.Status.TheVariants.{Done, BadWords, BadFile, ReadFault, WriteFault, NoMemory, Illegal, TooLong}
 
 -- the exit status of the program
 abbrev pub exit_number : Status → ℕ
@@ -10,4 +10,5 @@ exit_number BadFile = 3
 exit_number ReadFault = 4
 exit_number WriteFault = 5
 exit_number NoMemory = 6
+exit_number Illegal = 7
 exit_number TooLong = 8

@@ -16,6 +16,8 @@ pub enum Status {
     WriteFault,
     /// Memory ran out.
     NoMemory,
+    /// The history is not one that the kernel and the scripts allow. A line that says where was written.
+    Illegal,
     /// More bytes came than an input may have. Nothing was written.
     TooLong,
 }
@@ -34,6 +36,7 @@ impl Status {
             Status::ReadFault => 4,
             Status::WriteFault => 5,
             Status::NoMemory => 6,
+            Status::Illegal => 7,
             Status::TooLong => 8,
         }
     }

@@ -1,0 +1,8 @@
+use Rattle.cluster_cli.proofs.Runs.{can_run, runs_made}
+use Rattle.cluster_cli.proofs.answers.replay.Goals as goal
+
+pub history_text-requires : goal.history_text-requires
+history_text-requires c = can_run c.args.input.now c.in-Ok.given c.in-Ok.ensures
+
+pub returns-in_ok-text-in-Ok-clause-text : goal.returns-in_ok-text-in-Ok-clause-text
+returns-in_ok-text-in-Ok-clause-text c = runs_made c.args.input.now c.in-Ok.given c.in_ok-text-in-Ok.text.items c.in-Ok.ensures c.in_ok-text-in-Ok.ensures

@@ -1,0 +1,204 @@
+// What a command says of an input.
+ghost use Rattle.std.specs.Prelude.{◌≡◌, ◌≤◌, ◌+◌, ℕ, IfOk, Ok, Err, All, length};
+ghost use Rattle.cluster_core.specs.Run.{run};
+ghost use Rattle.cluster_laws.specs.Laws.{CanRun};
+ghost use Rattle.cluster_cli.specs.Ends.{HasText, input_limit};
+ghost use Rattle.cluster_cli.specs.Input.{fault_text};
+ghost use Rattle.cluster_cli.specs.Replay.{run_text, Replays};
+ghost use Rattle.cluster_cli.specs.Reading.{AreParts};
+ghost use Rattle.cluster_cli.specs.Input.{meaning};
+ghost use Rattle.cluster_cli.specs.Audit.{HasHistory, HasBadLine, bad_line_text, illegal_text, rule_text, IsVerdict, Audits};
+ghost use Rattle.byte_ends.specs.Text.{lines};
+ghost use Rattle.file_parts.specs.Parts.{IsPartOf, front_lines, history_lines};
+ghost use Rattle.unix_calls.specs.Calls.{EntryHasNames};
+ghost use Rattle.unix_calls.specs.Valid.{IsValid};
+
+use crate::input::{Given, read_given, read_runnable};
+use crate::status::Status;
+use audit_core::{Judged, audit as judge};
+use cluster_core::run;
+use file_parts::{Parts, Span, split};
+use history_reader::{TextRefusal, read_history};
+use kernel_model::Rule;
+use run_text::put_history;
+use script_reader::{Fault, ReadRefusal};
+use std::alloc::{AllocError, Global};
+use unix_calls::{Entry, World};
+use unix_names::NoMemory;
+
+/// What is written for an input, and the status.
+#[derive(Debug, Drop)]
+pub struct Answer {
+    pub status: Status,
+    pub text: Vec<u8>,
+}
+
+/// The history of an input that is run, or its least fault.
+pub fn replay(alloc: Global, input: &[u8]) -> Result<Answer, NoMemory>
+    requires { length input.now ≤ input_limit }
+    ensures has_text { IfOk result (λ a. HasText a.status) }
+    ensures text { IfOk result (λ a. Replays a.status input.now a.text.items) }
+{
+    match read_runnable(alloc, input) {
+        Err(ReadRefusal::NoMemory) => Err(NoMemory),
+        Err(ReadRefusal::Bad(fault)) => {
+            let text = fault_text(alloc, &fault)?;
+            Ok(Answer {
+                status: Status::BadFile,
+                text,
+            })
+        }
+        Ok(given) => {
+            let text = history_text(alloc, &given)?;
+            Ok(Answer {
+                status: Status::Done,
+                text,
+            })
+        }
+    }
+}
+
+// The history of a run, as text.
+#[tactic(auto, using(crate::proofs::Runs::run_entries))]
+fn history_text(alloc: Global, given: &Given) -> Result<Vec<u8>, NoMemory>
+    requires { CanRun given.now.world given.now.turns }
+    ensures { IfOk result (λ text. text.items ≡ run_text (run given.now.world given.now.turns)) }
+{
+    let run = run(alloc, &given.world, given.turns.as_slice())?;
+    put_history(alloc, run.entries.as_slice(), run.is_quiet)
+}
+
+fn fault_text(alloc: Global, fault: &Fault) -> Result<Vec<u8>, AllocError>
+    ensures { IfOk result (λ text. text.items ≡ fault_text fault.now) }
+{
+    let mut text = String::new(alloc);
+    let line = fault.line;
+    text.push_str("bad file: line ")?;
+    write!(text, "{line}")?;
+    text.push_str(": ")?;
+    text.push_str(fault.kind.name())?;
+    text.push_str("\n")?;
+    Ok(text.into_bytes())
+}
+
+/// The verdict on the history part of an input, or its first bad line, or the input's least fault.
+pub fn audit(alloc: Global, input: &[u8]) -> Result<Answer, NoMemory>
+    requires { length input.now ≤ input_limit }
+    ensures has_text { IfOk result (λ a. HasText a.status) }
+    ensures text { IfOk result (λ a. Audits a.status input.now a.text.items) }
+{
+    let parts = split(input);
+    match read_given(alloc, input, &parts) {
+        Err(ReadRefusal::NoMemory) => Err(NoMemory),
+        Err(ReadRefusal::Bad(fault)) => {
+            let text = fault_text(alloc, &fault)?;
+            Ok(Answer {
+                status: Status::BadFile,
+                text,
+            })
+        }
+        Ok(given) => heard(alloc, input, &parts, &given),
+    }
+}
+
+// What is said of the history of an input that has this meaning.
+#[tactic(auto, using(crate::proofs::Runs::meaning_valid, crate::proofs::Histories::has_names))]
+fn heard(alloc: Global, input: &[u8], parts: &Parts, given: &Given) -> Result<Answer, NoMemory>
+    requires short { length input.now ≤ input_limit }
+    requires parts { AreParts input.now parts.now }
+    requires reads { meaning input.now ≡ Ok given.now }
+    ensures has_text { IfOk result (λ a. HasText a.status) }
+    ensures text { IfOk result (λ a. Audits a.status input.now a.text.items) }
+{
+    match history_given(alloc, input, parts.history) {
+        Err(TextRefusal::NoMemory) => Err(NoMemory),
+        Err(TextRefusal::BadLine(line)) => bad_line(alloc, line),
+        Ok(entries) => judged(alloc, &given.world, &entries),
+    }
+}
+
+// The verdict on a history.
+fn judged(alloc: Global, world: &World, entries: &[Entry]) -> Result<Answer, NoMemory>
+    requires valid { IsValid world.now }
+    requires names { All EntryHasNames entries.now }
+    ensures has_text { IfOk result (λ a. HasText a.status) }
+    ensures verdict { IfOk result (λ a. IsVerdict world.now entries.now a.status a.text.items) }
+{
+    match judge(alloc, world, entries)? {
+        Judged::Legal => Ok(Answer {
+            status: Status::Done,
+            text: Vec::from_slice(alloc, b"legal\n")?,
+        }),
+        Judged::IllegalAt(number, rule) => illegal(alloc, number, rule),
+    }
+}
+
+// A history part's entries; without one there are none.
+#[tactic(auto, using(crate::proofs::Runs::history_first))]
+fn history_given(alloc: Global, input: &[u8], part: Option<Span>) -> Result<Vec<Entry>, TextRefusal>
+    requires short { length input.now ≤ input_limit }
+    requires part { IsPartOf input.now (history_lines (lines input.now)) (2 + length (front_lines (lines input.now))) part }
+    ensures entries { IfOk result (λ v. HasHistory (history_lines (lines input.now)) v.items) }
+    ensures bad { (line : ℕ) → result ≡ Err (TextRefusal.BadLine line) → HasBadLine (history_lines (lines input.now)) (2 + length (front_lines (lines input.now))) line }
+{
+    match part {
+        None => Ok(Vec::new(alloc)),
+        Some(part) => read_history(alloc, input, part),
+    }
+}
+
+fn bad_line(alloc: Global, line: u32) -> Result<Answer, NoMemory>
+    ensures illegal { IfOk result (λ a. a.status ≡ Status.Illegal) }
+    ensures text { IfOk result (λ a. a.text.items ≡ bad_line_text line) }
+{
+    let text = bad_text(alloc, line)?;
+    Ok(Answer {
+        status: Status::Illegal,
+        text,
+    })
+}
+
+fn illegal(alloc: Global, number: u64, rule: Rule) -> Result<Answer, NoMemory>
+    ensures illegal { IfOk result (λ a. a.status ≡ Status.Illegal) }
+    ensures text { IfOk result (λ a. a.text.items ≡ illegal_text number rule) }
+{
+    let text = illegal_text(alloc, number, rule)?;
+    Ok(Answer {
+        status: Status::Illegal,
+        text,
+    })
+}
+
+fn bad_text(alloc: Global, line: u32) -> Result<Vec<u8>, AllocError>
+    ensures { IfOk result (λ text. text.items ≡ bad_line_text line) }
+{
+    let mut text = String::new(alloc);
+    text.push_str("bad text at line ")?;
+    write!(text, "{line}")?;
+    text.push_str("\n")?;
+    Ok(text.into_bytes())
+}
+
+fn illegal_text(alloc: Global, number: u64, rule: Rule) -> Result<Vec<u8>, AllocError>
+    ensures { IfOk result (λ text. text.items ≡ illegal_text number rule) }
+{
+    let mut text = String::new(alloc);
+    text.push_str("illegal at ")?;
+    write!(text, "{number}")?;
+    text.push_str(": ")?;
+    text.push_str(rule_text(rule))?;
+    text.push_str("\n")?;
+    Ok(text.into_bytes())
+}
+
+fn rule_text(rule: Rule) -> &'static str
+    ensures { result.now ≡ rule_text rule }
+{
+    match rule {
+        Rule::UnknownProcess => "unknown process",
+        Rule::ScriptOrder => "script order",
+        Rule::SignalFirst => "signal first",
+        Rule::WrongReply => "reply",
+        Rule::WrongEvent => "event",
+    }
+}
