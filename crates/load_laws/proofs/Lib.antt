@@ -10,3 +10,4 @@ pub mod Rounds
 pub mod Sound
 pub mod Files
 pub mod Meant
+pub mod Short

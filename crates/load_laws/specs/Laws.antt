@@ -1,5 +1,5 @@
 -- What is true of each made file.
-use Rattle.std.specs.Prelude.{◌≡◌, ℕ, ◌+◌, ◌*◌, ◌≤◌, None, Ok, ◌++◌}
+use Rattle.std.specs.Prelude.{◌≡◌, ℕ, ◌+◌, ◌*◌, ◌≤◌, None, Ok, ◌++◌, length}
 use Rattle.byte_ends.specs.Text.{lines}
 use Rattle.unix_calls.specs.Work.{work, works, total_work}
 use Rattle.unix_calls.specs.Valid.{IsValid}
@@ -39,3 +39,7 @@ MadeWork = ForEach (λ seed nodes size. (total_work (works (made_world seed node
 abbrev pub MadeIsOnePart : Type 0
 MadeIsOnePart = ForEach (λ seed nodes size. (world_lines (lines (made seed nodes size)) ≡ lines (made seed nodes size))
     × (schedule_lines (lines (made seed nodes size)) ≡ None) × (history_lines (lines (made seed nodes size)) ≡ None))
+
+-- it is no longer than an input may be
+abbrev pub MadeIsShort : Type 0
+MadeIsShort = ForEach (λ seed nodes size. length (made seed nodes size) ≤ 1048576)
