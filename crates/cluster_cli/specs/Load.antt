@@ -14,6 +14,7 @@ use Rattle.load_maker.specs.Made.{made}
 use Rattle.run_text.specs.History.{last_line}
 use Rattle.cluster_core.specs.declared.played.Played.{Played}
 use Rattle.cluster_core.specs.Run.{run}
+use Rattle.cluster_cli.specs.declared.loads.Counts.{Counts}
 use Rattle.cluster_cli.specs.Replay.{is_empty}
 
 -- a fork that made a process
@@ -26,15 +27,22 @@ abbrev pub fork_count : List Entry → ℕ
 fork_count history = length (filter is_fork history)
 
 -- how a made file is run: by the rule of `auto`
-abbrev pub load_turns : List Turn
+unfoldable pub load_turns : List Turn
 load_turns = Auto 200000 ∷ []
 
--- how many entries the run has, how many processes were started or forked, and whether nothing is left to do
+-- how many entries a run has, how many processes were started or forked, and whether nothing is left to do
+abbrev pub counts_text : Counts → List ℕ
+counts_text counts =
+    codes "entries " ++ (decimal counts.entries
+    ++ (codes "\nprocesses " ++ (decimal counts.processes
+    ++ (codes "\n" ++ last_line counts.is_quiet))))
+
 abbrev pub load_text : World → Played → List ℕ
-load_text world p =
-    codes "entries " ++ (decimal (length p.history)
-    ++ (codes "\nprocesses " ++ (decimal (length world.starts + fork_count p.history)
-    ++ (codes "\n" ++ last_line (is_empty p.machine.ready)))))
+load_text world p = counts_text (record {
+  entries = length p.history;
+  processes = length world.starts + fork_count p.history;
+  is_quiet = is_empty p.machine.ready;
+})
 
 -- the text of a load: that of the run of its file's world
 pub record Loads (seed size : ℕ) (output : List ℕ) : Type 0 where
