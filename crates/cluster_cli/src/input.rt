@@ -88,11 +88,7 @@ fn turns_given(
     }
 }
 
-fn read_without_history(
-    alloc: Global,
-    input: &[u8],
-    parts: &Parts,
-) -> Result<Given, ReadRefusal>
+fn read_without_history(alloc: Global, input: &[u8], parts: &Parts) -> Result<Given, ReadRefusal>
     requires short { length input.now ≤ input_limit }
     requires parts { AreParts input.now parts.now }
     ensures { IsReading result (spec.without_history (lines input.now) (spec.meaning input.now)) }

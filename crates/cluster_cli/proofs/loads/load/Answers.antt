@@ -15,11 +15,11 @@ unreachable-requires c =
     let file = c.deref.ensures.value ∙ c.in_ok-file.ensures in
     let whole = whole_slice c.deref.result.now _ c.len.result file cc in
     no_fault c.args.seed c.args.size c.in-Err-Bad.field-0-0 c.requires
-        (subst (λ (xs : List ℕ). read_part 1 (lines xs) ≡ Err c.in-Err-Bad.field-0-0) whole (c.read_file.ensures.bad c.in-Err-Bad.field-0-0 cc))
+    (subst (λ (xs : List ℕ). read_part 1 (lines xs) ≡ Err c.in-Err-Bad.field-0-0) whole (c.read_file.ensures.bad c.in-Err-Bad.field-0-0 cc))
 
 pub counted-requires : goal.counted-requires
 counted-requires c =
     let file = c.deref.ensures.value ∙ c.in_ok-file.ensures in
     let whole = whole_slice c.deref.result.now _ c.len.result file cc in
     subst (CanRun c.in-Ok.world) (sym (c.as_slice.ensures ∙ c.in_ok-turns-in-Ok.ensures))
-        (can_load c.args.seed c.args.size c.in-Ok.world c.requires (subst (λ (xs : List ℕ). read_part 1 (lines xs) ≡ Ok c.in-Ok.world) whole c.in-Ok.ensures.world))
+    (can_load c.args.seed c.args.size c.in-Ok.world c.requires (subst (λ (xs : List ℕ). read_part 1 (lines xs) ≡ Ok c.in-Ok.world) whole c.in-Ok.ensures.world))
