@@ -5,8 +5,8 @@ use Rattle.std.proofs.KnownBytes.{Consumes-all}
 use Rattle.std.proofs.lemmas.List.{length-append}
 use Rattle.byte_ends.specs.Causes.{Rose}
 use Rattle.cluster_cli.specs.declared.status.Status.{Status}
-use Rattle.cluster_cli.specs.declared.status.Status.TheVariants.{Done, BadWords, BadFile, ReadFault, WriteFault, NoMemory, Illegal, TooLong}
-use Rattle.cluster_cli.specs.Ends.{Texts, HasText, IsRead, Answers, ReadsUpTo, ReadsCount, IsAnswered, IsMade, input_limit}
+use Rattle.cluster_cli.specs.declared.status.Status.TheVariants.{ReadFault, WriteFault, NoMemory, TooLong}
+use Rattle.cluster_cli.specs.Ends.{Texts, HasText, IsRead, ReadsUpTo, ReadsCount, IsAnswered, input_limit}
 
 -- what is read to the end of a source that tells its bytes is all of them
 read_whole : (left left' : Option (List ℕ)) (bytes input : List ℕ) → left ≡ Some input → Consumes left left' bytes → IsAtEnd left' → bytes ≡ input

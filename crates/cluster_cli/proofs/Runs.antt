@@ -16,7 +16,7 @@ use Rattle.unix_calls.specs.declared.World.{World}
 use Rattle.unix_calls.specs.Valid.{IsValid}
 use Rattle.script_reader.specs.declared.faults.Fault.{Fault}
 use Rattle.script_reader.specs.declared.faults.Kind.{Kind}
-use Rattle.script_reader.specs.Words.{Word, Row, ◌>>=◌, is_same, is_number}
+use Rattle.script_reader.specs.Words.{Row, ◌>>=◌, is_same, is_number}
 use Rattle.script_reader.specs.Lines.{is_skipped}
 use Rattle.script_reader.specs.declared.faults.Kind.TheVariants.{NotUtf8, TooManyTurns}
 use Rattle.script_reader.specs.declared.faults.Kind.TheVariants.{UnknownWord}
@@ -28,7 +28,7 @@ use Rattle.unix_calls.specs.declared.Call.TheVariants as calls
 use Rattle.run_text.specs.History.{IsEntry}
 use Rattle.cluster_laws.specs.Stands.{IsWhole}
 use Rattle.script_reader.proofs.Numbers.{is_number-decides}
-use Rattle.script_laws.specs.Grammar.{Naming, IsFor, Part, silent, opens, IsFile}
+use Rattle.script_laws.specs.Grammar.{Naming, Part, silent, opens}
 use Rattle.script_laws.proofs.Words.{words_same}
 use Rattle.script_laws.proofs.Exact.{read_is_file}
 use Rattle.run_text.specs.Schedule.{SoFar, turns_in, added, after_line, turns_of, turn_of, read_turn, counted, schedule}

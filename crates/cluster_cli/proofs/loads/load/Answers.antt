@@ -1,5 +1,4 @@
 use Rattle.std.proofs.Common.{◌≡◌, ◌<◌, ℕ, List, length, sym, subst, ◌∙◌, Ok, Err}
-use Rattle.std.specs.Prelude.{slice_range}
 use Rattle.byte_ends.specs.Text.{lines}
 use Rattle.script_reader.specs.Files.{read_part}
 use Rattle.cluster_laws.specs.Laws.{CanRun}
