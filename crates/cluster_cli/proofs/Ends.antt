@@ -5,8 +5,8 @@ use Rattle.std.proofs.KnownBytes.{Consumes-all}
 use Rattle.std.proofs.lemmas.List.{length-append}
 use Rattle.byte_ends.specs.Causes.{Rose}
 use Rattle.cluster_cli.specs.declared.status.Status.{Status}
-use Rattle.cluster_cli.specs.declared.status.Status.TheVariants.{Done, BadWords, BadFile, ReadFault, WriteFault, NoMemory, Illegal, TooLong}
-use Rattle.cluster_cli.specs.Ends.{Texts, HasText, IsRead, Answers, ReadsUpTo, ReadsCount, IsAnswered, IsMade, input_limit}
+use Rattle.cluster_cli.specs.declared.status.Status.TheVariants.{ReadFault, WriteFault, NoMemory, TooLong}
+use Rattle.cluster_cli.specs.Ends.{Texts, HasText, IsRead, ReadsUpTo, ReadsCount, IsAnswered, input_limit}
 
 -- what is read to the end of a source that tells its bytes is all of them
 read_whole : (left left' : Option (List ℕ)) (bytes input : List ℕ) → left ≡ Some input → Consumes left left' bytes → IsAtEnd left' → bytes ≡ input
@@ -49,8 +49,8 @@ answered left source_faults taken sink_faults P source source' sink sink' input 
   read_fault = λ e. absurd (other ReadFault e (λ h. h) (λ w. cc));
   too_long = λ e. absurd (other TooLong e (λ h. h) (λ w. cc));
   write_fault = λ e. (
-    let f = fault e in
-    (f.0, record { input = input; read = read; writes = (text, f.1.0, (status, has, said), f.1.1, f.1.2) }));
+      let f = fault e in
+      (f.0, record { input = input; read = read; writes = (text, f.1.0, (status, has, said), f.1.1, f.1.2) }));
   no_memory = λ e. absurd (other NoMemory e (λ h. h) (λ w. cc));
   bounded = (input, bound read.short, read.consumed);
   answers = λ told-input told short source_fine sink_fine. elim some [
@@ -62,6 +62,7 @@ answered left source_faults taken sink_faults P source source' sink sink' input 
   where
     bound : length input ≤ input_limit → length input ≤ input_limit + 1
     bound h = omega (arith, h)
+
     other : (s : Status) → result ≡ s → (HasText s → ⊥) → (WriteFault ≡ s → ⊥) → ⊥
     other s e bad not = elim some [
       | inl e' ↦ bad (subst HasText (sym e' ∙ e) has)
@@ -123,9 +124,12 @@ unread left source_faults taken sink_faults P source source' sink status bounded
   where
     read_or_write : ReadFault ≡ WriteFault → ⊥
     read_or_write e = cc
+
     long_or_write : TooLong ≡ WriteFault → ⊥
     long_or_write e = cc
+
     memory_or_write : NoMemory ≡ WriteFault → ⊥
     memory_or_write e = cc
+
     counted : (input : List ℕ) → left source ≡ Some input → length input ≤ input_limit → ReadsCount (input_limit + 1) (left source) (left source') → ⊥
     counted input told short r = too_many (left source) (left source') input told short r.0 r.1 r.2

@@ -1,5 +1,5 @@
 -- The entries of a history that was read.
-use Rattle.std.proofs.Common.{◌≡◌, Bool, true, false, List, [], ◌∷◌, refl, sym, subst, Option, Some, None, All}
+use Rattle.std.proofs.Common.{◌≡◌, Bool, true, false, List, [], ◌∷◌, sym, subst, Option, Some, None, All}
 use Rattle.std.specs.Prelude.{MatchBool}
 use Rattle.std.proofs.lemmas.List.Elements.{All-nil, All-cons}
 use Rattle.unix_calls.specs.declared.Entry.{Entry}
@@ -24,8 +24,8 @@ history_names : (ls : Lines) (es : List Entry) → IsHistory ls es → All Entry
 history_names [] es h = no_entries es h
 history_names (l ∷ ls) es h =
     either (is_nothing l) _ _ (All EntryHasNames es) (history_names ls es)
-        (either (is_schedule l) _ _ (All EntryHasNames es) (no_entries es)
-            (either (is_last l) _ _ (All EntryHasNames es) (λ x. no_entries es x.0) (on_line l (IsHistory ls) (history_names ls) es))) h
+    (either (is_schedule l) _ _ (All EntryHasNames es) (no_entries es)
+    (either (is_last l) _ _ (All EntryHasNames es) (λ x. no_entries es x.0) (on_line l (IsHistory ls) (history_names ls) es))) h
 
 pub has_names : (ls : Option Lines) (es : List Entry) → HasHistory ls es → All EntryHasNames es
 has_names None es h = no_entries es h

@@ -16,7 +16,7 @@ use Rattle.unix_calls.specs.declared.World.{World}
 use Rattle.unix_calls.specs.Valid.{IsValid}
 use Rattle.script_reader.specs.declared.faults.Fault.{Fault}
 use Rattle.script_reader.specs.declared.faults.Kind.{Kind}
-use Rattle.script_reader.specs.Words.{Word, Row, ◌>>=◌, is_same, is_number}
+use Rattle.script_reader.specs.Words.{Row, ◌>>=◌, is_same, is_number}
 use Rattle.script_reader.specs.Lines.{is_skipped}
 use Rattle.script_reader.specs.declared.faults.Kind.TheVariants.{NotUtf8, TooManyTurns}
 use Rattle.script_reader.specs.declared.faults.Kind.TheVariants.{UnknownWord}
@@ -28,7 +28,7 @@ use Rattle.unix_calls.specs.declared.Call.TheVariants as calls
 use Rattle.run_text.specs.History.{IsEntry}
 use Rattle.cluster_laws.specs.Stands.{IsWhole}
 use Rattle.script_reader.proofs.Numbers.{is_number-decides}
-use Rattle.script_laws.specs.Grammar.{Naming, IsFor, Part, silent, opens, IsFile}
+use Rattle.script_laws.specs.Grammar.{Naming, Part, silent, opens}
 use Rattle.script_laws.proofs.Words.{words_same}
 use Rattle.script_laws.proofs.Exact.{read_is_file}
 use Rattle.run_text.specs.Schedule.{SoFar, turns_in, added, after_line, turns_of, turn_of, read_turn, counted, schedule}
@@ -113,11 +113,14 @@ read_few nodes before line turn e = at_text (is_utf8 line) e
     at_turn : (r : Result Turn Kind) → (r >>= λ t. counted before t) ≡ Ok (Some turn) → before + turns_in turn ≤ 200000
     at_turn (Ok t) e' = counted_few before t turn e'
     at_turn (Err kind) e' = absurd (err_ok kind (Some turn) e')
+
     none_some : None ≡ Some turn → ⊥
     none_some h = cc
+
     at_words : (b : Bool) → (if b then Ok None else (turn_of nodes (words line) >>= λ t. counted before t)) ≡ Ok (Some turn) → before + turns_in turn ≤ 200000
     at_words true e' = absurd (none_some (ok_same _ None (Some turn) refl e'))
     at_words false e' = at_turn (turn_of nodes (words line)) e'
+
     at_text : (b : Bool) → (if b then (if is_skipped (words line) then Ok None else (turn_of nodes (words line) >>= λ t. counted before t)) else Err NotUtf8) ≡ Ok (Some turn) → before + turns_in turn ≤ 200000
     at_text true e' = at_words (is_skipped (words line)) e'
     at_text false e' = absurd (err_ok NotUtf8 (Some turn) e')
@@ -133,7 +136,7 @@ step_on nodes ls s s' rest c (Err kind) few e =
 step_on nodes ls s s' rest c (Ok None) few e = rest (record { turns = s.turns; count = s.count; number = s.number + 1 }) (record { count = c.count; few = c.few }) e
 step_on nodes ls s s' rest c (Ok (Some turn)) few e =
     rest (record { turns = s.turns ++ turn ∷ []; count = s.count + turns_in turn; number = s.number + 1 })
-        (record { count = total_more s.turns turn ∙ ap (λ n. n + turn_count turn) c.count ∙ ap (λ n. s.count + n) (sym (same_count turn)); few = few turn refl }) e
+    (record { count = total_more s.turns turn ∙ ap (λ n. n + turn_count turn) c.count ∙ ap (λ n. s.count + n) (sym (same_count turn)); few = few turn refl }) e
 
 counted_on : (nodes : ℕ) (ls : List (List ℕ)) (s s' : SoFar) → IsCounted s → fold (after_line nodes) (Ok s) ls ≡ Ok s' → IsCounted s'
 counted_on nodes [] s s' c e = subst IsCounted (ok_same _ s s' refl e) c

@@ -3,7 +3,7 @@ use Rattle.std.specs.Prelude.{◌≡◌, ◌⊎◌, ℕ, ◌+◌, ◌<◌, ◌�
 use Rattle.std.specs.Io.KnownBytes.{Consumes, Appends, IsAtEnd}
 use Rattle.byte_ends.specs.Causes.{Rose}
 use Rattle.cluster_cli.specs.declared.status.Status.{Status}
-use Rattle.cluster_cli.specs.declared.status.Status.TheVariants.{Done, BadWords, BadFile, ReadFault, WriteFault, NoMemory, Illegal, TooLong}
+use Rattle.cluster_cli.specs.declared.status.Status.TheVariants.{Done, BadFile, ReadFault, WriteFault, NoMemory, Illegal, TooLong}
 
 -- how many bytes an input may have
 abbrev pub input_limit : ℕ

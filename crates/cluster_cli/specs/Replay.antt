@@ -1,5 +1,5 @@
 -- What `replay` writes.
-use Rattle.std.specs.Prelude.{◌≡◌, Bool, true, false, List, [], ◌∷◌, ℕ, Ok}
+use Rattle.std.specs.Prelude.{◌≡◌, Bool, true, false, List, [], ℕ, Ok}
 use Rattle.proc_image.specs.declared.image.Image.{Image}
 use Rattle.kernel_model.specs.Legal.{IsLegal}
 use Rattle.proc_image.specs.Follows.{Follows}
@@ -7,7 +7,6 @@ use Rattle.run_text.specs.History.{text}
 use Rattle.cluster_core.specs.declared.played.Played.{Played}
 use Rattle.cluster_core.specs.Run.{run, IsQuiet}
 use Rattle.audit_core.specs.Finished.{IsFinished}
-use Rattle.cluster_cli.specs.declared.status.Status.{Status}
 use Rattle.cluster_cli.specs.declared.status.Status.TheVariants.{Done, BadFile}
 use Rattle.cluster_cli.specs.Ends.{Texts}
 use Rattle.cluster_cli.specs.declared.input.Given.{Given}

@@ -20,7 +20,7 @@ use unix_calls::{Turn, World};
 use unix_names::{NoMemory, Seq};
 
 /// How many turns are done by the rule of `auto` where a file has no schedule.
-const DEFAULT_TURNS: u32 = 200_000;
+pub const DEFAULT_TURNS: u32 = 200_000;
 
 /// The most nodes of a cluster.
 const MOST_NODES: u32 = 64;
@@ -88,11 +88,7 @@ fn turns_given(
     }
 }
 
-fn read_without_history(
-    alloc: Global,
-    input: &[u8],
-    parts: &Parts,
-) -> Result<Given, ReadRefusal>
+fn read_without_history(alloc: Global, input: &[u8], parts: &Parts) -> Result<Given, ReadRefusal>
     requires short { length input.now ≤ input_limit }
     requires parts { AreParts input.now parts.now }
     ensures { IsReading result (spec.without_history (lines input.now) (spec.meaning input.now)) }
