@@ -3,7 +3,7 @@ use Rattle.std.specs.Prelude.{◌≡◌, ℕ, ◌≤◌, List, [], ◌∷◌, co
 use Rattle.std.specs.Str.Parse.{digits_value}
 use Rattle.byte_ends.specs.Text.{IsNumber}
 use Rattle.cluster_cli.specs.declared.commands.Command.{Command}
-use Rattle.cluster_cli.specs.declared.commands.Command.TheVariants.{Replay, Audit, Make}
+use Rattle.cluster_cli.specs.declared.commands.Command.TheVariants.{Replay, Audit, Make, Load as LoadCommand}
 use Rattle.cluster_cli.specs.declared.commands.Load.{Load}
 
 -- a word is 1 to 10 decimal digits of this number, which is below 2^32
@@ -33,6 +33,7 @@ abbrev pub Says : List (List ℕ) → Command → Type 0
 Says (word ∷ []) Replay = word ≡ codes "replay"
 Says (word ∷ []) Audit = word ≡ codes "audit"
 Says (word ∷ seed ∷ nodes ∷ size ∷ []) (Make load) = (word ≡ codes "make") × IsLoad seed nodes size load
+Says (word ∷ seed ∷ nodes ∷ size ∷ []) (LoadCommand load) = (word ≡ codes "load") × IsLoad seed nodes size load × (load.nodes ≡ 1)
 Says _ _ = ⊥
 
 -- the words are no command

@@ -5,3 +5,4 @@ pub mod Reading
 pub mod Input
 pub mod Replay
 pub mod Audit
+pub mod Load

@@ -13,6 +13,8 @@ pub enum Command {
     Audit,
     /// To write the file of a load.
     Make(Load),
+    /// To run the file of a load on one node, and to count.
+    Load(Load),
 }
 
 /// The numbers of a load: 1 to 64 nodes, 1 to 200 processes.
@@ -57,6 +59,8 @@ fn load_command(word: &str, seed: &str, nodes: &str, size: &str) -> Option<Comma
     let load = load_of(seed, nodes, size)?;
     if is_word(word, "make") {
         Some(Command::Make(load))
+    } else if is_word(word, "load") && load.nodes == 1 {
+        Some(Command::Load(load))
     } else {
         None
     }

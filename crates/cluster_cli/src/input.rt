@@ -20,7 +20,7 @@ use unix_calls::{Turn, World};
 use unix_names::{NoMemory, Seq};
 
 /// How many turns are done by the rule of `auto` where a file has no schedule.
-const DEFAULT_TURNS: u32 = 200_000;
+pub const DEFAULT_TURNS: u32 = 200_000;
 
 /// The most nodes of a cluster.
 const MOST_NODES: u32 = 64;

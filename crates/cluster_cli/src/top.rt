@@ -8,9 +8,11 @@ ghost use Rattle.cluster_cli.specs.Ends.{IsRead, ReadsUpTo, ReadsCount, IsAnswer
 ghost use Rattle.cluster_cli.specs.Commands.{IsWithin, Says, SaysNothing};
 ghost use Rattle.cluster_cli.specs.Replay.{Replays};
 ghost use Rattle.cluster_cli.specs.Audit.{Audits};
+ghost use Rattle.cluster_cli.specs.Load.{Loads};
 
 use crate::answers::{audit, replay};
 use crate::commands::{Command, command_of};
+use crate::loads::load;
 use crate::status::Status;
 use byte_ends::{Hold, ReadEnd, Sink, Source, read_all, write_all};
 use load_maker::make;
@@ -37,12 +39,15 @@ pub fn vproc_top<S: Source, K: Sink, H: Hold + Sync>(
         → IsAnswered S.left S.faults K.taken K.faults Audits source.old source.new sink.old sink.new result }
     ensures make { (load : Load) → Says (map (λ w. w.now) words.now) (Command.Make load)
         → IsMade K.taken K.faults (λ output. output ≡ made load.seed load.nodes load.size) sink.old sink.new result × (source.new ≡ source.old) }
+    ensures load { (load : Load) → Says (map (λ w. w.now) words.now) (Command.Load load)
+        → IsMade K.taken K.faults (Loads load.seed load.size) sink.old sink.new result × (source.new ≡ source.old) }
 {
     match command_of(words) {
         None => Status::BadWords,
         Some(Command::Replay) => replay_top(alloc, source, sink),
         Some(Command::Audit) => audit_top(alloc, source, sink),
         Some(Command::Make(load)) => make_top(alloc, load.seed, load.nodes, load.size, sink),
+        Some(Command::Load(load)) => load_top(alloc, load.seed, load.size, sink),
     }
 }
 
@@ -96,6 +101,17 @@ pub fn make_top<K: Sink>(alloc: Global, seed: u32, nodes: u32, size: u32, sink: 
     ensures made { IsMade K.taken K.faults (λ output. output ≡ made seed nodes size) sink.old sink.new result }
 {
     match make(alloc, seed, nodes, size) {
+        Err(_) => Status::NoMemory,
+        Ok(text) => put(sink, &text, Status::Done),
+    }
+}
+
+/// Runs the made file of a load on one node, and writes what it comes to.
+pub fn load_top<K: Sink>(alloc: Global, seed: u32, size: u32, sink: &mut K) -> Status
+    requires load { IsWithin 1 size }
+    ensures loaded { IsMade K.taken K.faults (Loads seed size) sink.old sink.new result }
+{
+    match load(alloc, seed, size) {
         Err(_) => Status::NoMemory,
         Ok(text) => put(sink, &text, Status::Done),
     }

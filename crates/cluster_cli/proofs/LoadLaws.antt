@@ -1,0 +1,54 @@
+-- What is so of a made file that is run.
+use Rattle.std.proofs.Common.{◌≡◌, ◌≤◌, ◌-◌, ℕ, List, length, take, ap, ◌∙◌, subst, arith, Ok, Err}
+use Rattle.std.proofs.Math.Seq.{take-length}
+use Rattle.std.specs.Prelude.{◌<◌, ◌^◌, slice_range}
+use Rattle.byte_ends.specs.Text.{lines}
+use Rattle.unix_calls.specs.declared.World.{World}
+use Rattle.script_reader.specs.declared.faults.Fault.{Fault}
+use Rattle.script_reader.specs.Files.{read_part}
+use Rattle.load_maker.specs.Made.{made}
+use Rattle.load_laws.specs.Worlds.{made_world}
+use Rattle.load_laws.proofs.Files.{made_valid}
+use Rattle.load_laws.proofs.Meant.{made_read}
+use Rattle.load_laws.proofs.Short.{made_short}
+use Rattle.cluster_core.specs.Run.{run, total_turns}
+use Rattle.cluster_laws.specs.Laws.{CanRun}
+use Rattle.cluster_cli.specs.Commands.{IsWithin}
+use Rattle.cluster_cli.specs.Load.{load_turns, load_text, Loads}
+
+few : total_turns load_turns ≤ 200000
+unfolding load_turns
+few = omega arith
+
+-- a made file fits what is read
+pub fits : (seed size : ℕ) → IsWithin 1 size → length (made seed 1 size) < 2 ^ 31
+fits seed size w = let short = made_short seed 1 size (omega arith) (omega arith) w.some w.few in omega (arith, short)
+
+read_is : (seed size : ℕ) (world : World) → IsWithin 1 size → read_part 1 (lines (made seed 1 size)) ≡ Ok world → made_world seed 1 size ≡ world
+read_is seed size world w e = same (made_read seed 1 size (omega arith) (omega arith) w.some w.few 1) e
+  where
+    same : read_part 1 (lines (made seed 1 size)) ≡ Ok (made_world seed 1 size) → read_part 1 (lines (made seed 1 size)) ≡ Ok world → made_world seed 1 size ≡ world
+    same a b = cc
+
+-- it has no fault
+pub no_fault : (seed size : ℕ) (fault : Fault) → IsWithin 1 size → read_part 1 (lines (made seed 1 size)) ≡ Err fault → ⊥
+no_fault seed size fault w e = both (made_read seed 1 size (omega arith) (omega arith) w.some w.few 1) e
+  where
+    both : read_part 1 (lines (made seed 1 size)) ≡ Ok (made_world seed 1 size) → read_part 1 (lines (made seed 1 size)) ≡ Err fault → ⊥
+    both a b = cc
+
+-- its world can be run
+pub can_load : (seed size : ℕ) (world : World) → IsWithin 1 size → read_part 1 (lines (made seed 1 size)) ≡ Ok world → CanRun world load_turns
+can_load seed size world w e =
+    let valid = made_valid seed 1 size (omega arith) (omega arith) w.some w.few in
+    subst (λ (v : World). CanRun v load_turns) (read_is seed size world w e) (record { valid = valid.0; one_node = valid.1; few_turns = few })
+
+pub loads_made : (seed size : ℕ) (world : World) (text : List ℕ) → read_part 1 (lines (made seed 1 size)) ≡ Ok world → text ≡ load_text world (run world load_turns) → Loads seed size text
+loads_made seed size world text reads writes = record { world = world; reads = reads; writes = writes }
+
+no_less : (n : ℕ) → n - 0 ≡ n
+no_less n = omega arith
+
+-- the whole of a text is its part from 0 to its length
+pub whole_slice : (xs ys : List ℕ) (n : ℕ) → xs ≡ ys → n ≡ length ys → slice_range xs 0 n ≡ ys
+whole_slice xs ys n e h = ap (λ zs. slice_range zs 0 n) e ∙ ap (λ k. take k ys) (no_less n ∙ h) ∙ take-length ys
