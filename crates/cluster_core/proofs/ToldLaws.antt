@@ -1,7 +1,7 @@
 -- who is told of an end: the groups that it leaves are among those that it may leave
-use Rattle.std.proofs.Common.{◌≡◌, ◌∙◌, ◌&&◌, ◌||◌, not, Bool, true, false, cond, ℕ, ◌+◌, ◌<◌, List, [], ◌∷◌, ◌++◌, filter, take, length, get_or, Option, None, Some, ◌%◌, refl, sym, ap}
+use Rattle.std.proofs.Common.{◌≡◌, ◌∙◌, ◌&&◌, ◌||◌, not, Bool, true, false, cond, ℕ, ◌+◌, ◌<◌, List, [], ◌∷◌, ◌++◌, filter, map, take, length, get_or, Option, None, Some, ◌%◌, refl, sym, ap}
 use Rattle.std.specs.List.{list_any, flat_map}
-use Rattle.std.proofs.lemmas.List.{append-nil, length-map, get_or-map}
+use Rattle.std.proofs.lemmas.List.{append-nil, length-map, map-append, get_or-map}
 use Rattle.std.proofs.lemmas.List.Elements.{filter_more}
 use Rattle.unix_names.specs.declared.Pid.{Pid}
 use Rattle.unix_names.specs.declared.WaitStatus.{WaitStatus}
@@ -24,7 +24,7 @@ use Rattle.kernel_model.specs.Ending.{rows_left, sent_by_end, after_end}
 use Rattle.kernel_model.specs.Step.{verdict, process_of, after_at}
 use Rattle.kernel_model.proofs.EndLaws.{any_map, stopped_before}
 use Rattle.cluster_core.specs.Machine.{Groups, others, groups_after, told, told_of_kill_call, told_of_setpgid, told_of_setsid, stepped, stepped_by}
-use Rattle.cluster_core.specs.Commit.{is_stopped_row, others_in, is_end, told_first, risked}
+use Rattle.cluster_core.specs.Commit.{is_stopped_row, stopped_groups, is_listed, others_in, is_end, told_first, risked}
 
 -- ---- filters
 two_step : {X : Type 0} (q : X → Bool) (x : X) (both first : List X) (a b c : Bool) → q x ≡ b → c ≡ (a && b) → both ≡ filter q first → cond c (x ∷ both) both ≡ filter q (cond a (x ∷ first) first)
@@ -58,6 +58,37 @@ stopped_step false false rest others h g = g h
 none_stopped_in : (g : Pid) (rows : List Row) → list_any is_stopped_row rows ≡ false → list_any (is_stopped_in g) rows ≡ false
 none_stopped_in g [] h = refl
 none_stopped_in g (r ∷ rows) h = stopped_step (in_group g r) (is_stopped r.life) (list_any is_stopped_row rows) (list_any (is_stopped_in g) rows) h (none_stopped_in g rows)
+
+-- ---- the groups of those that are stopped
+or_and : (x t : Bool) → (x || t) ≡ ((x && true) || t)
+or_and true t = refl
+or_and false t = refl
+
+no_and : (x t : Bool) → t ≡ ((x && false) || t)
+no_and true t = refl
+no_and false t = refl
+
+listed_step : (b : Bool) (g : Pid) (r : Row) (rest : List Row) (tail : Bool) → is_listed g (map (λ (c : Row). c.group) rest) ≡ tail
+    → is_listed g (map (λ (c : Row). c.group) (cond b (r ∷ rest) rest)) ≡ ((in_group g r && b) || tail)
+listed_step true g r rest tail h = ap (λ t. in_group g r || t) h ∙ or_and (in_group g r) tail
+listed_step false g r rest tail h = h ∙ no_and (in_group g r) tail
+
+grouped : (b : Bool) (r : Row) (rest : List Row) → map (λ (c : Row). c.group) (rest ++ cond b (r ∷ []) []) ≡ map (λ (c : Row). c.group) rest ++ cond b (r.group ∷ []) []
+grouped true r rest = map-append (λ (c : Row). c.group) rest (r ∷ [])
+grouped false r rest = map-append (λ (c : Row). c.group) rest []
+
+-- one row more, which is stopped or not
+pub stopped_more : (rows : List Row) (i : ℕ) (r : Row) → i < length rows → r ≡ get_or rows i r
+    → stopped_groups (take (i + 1) rows) ≡ stopped_groups (take i rows) ++ cond (is_stopped r.life) (r.group ∷ []) []
+stopped_more rows i r within is =
+    ap (λ (rs : List Row). map (λ (c : Row). c.group) rs) (filter_more is_stopped_row rows i r within
+    ∙ ap (λ (c : Row). filter is_stopped_row (take i rows) ++ cond (is_stopped_row c) (c ∷ []) []) (sym is))
+    ∙ grouped (is_stopped r.life) r (filter is_stopped_row (take i rows))
+
+-- a group is among them exactly where it has a stopped member
+pub listed_stopped : (g : Pid) (rows : List Row) → is_listed g (stopped_groups rows) ≡ list_any (is_stopped_in g) rows
+listed_stopped g [] = refl
+listed_stopped g (r ∷ rows) = listed_step (is_stopped r.life) g r (filter is_stopped_row rows) (list_any (is_stopped_in g) rows) (listed_stopped g rows)
 
 -- no group is at risk where nobody is stopped
 pub none_at_risk : (rows : List Row) (groups : List Pid) → list_any is_stopped_row rows ≡ false → filter (is_at_risk rows) groups ≡ []

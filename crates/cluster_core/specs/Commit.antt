@@ -1,5 +1,6 @@
 -- What the code of a turn goes through: who is told without the groups that an end leaves, which groups that may be, and which image a push moves.
-use Rattle.std.specs.Prelude.{Bool, true, false, not, if◌then◌else◌, List, [], ◌∷◌, filter, find, Option, All}
+use Rattle.std.specs.Prelude.{Bool, true, false, not, if◌then◌else◌, List, [], ◌∷◌, map, filter, find, Option, All}
+use Rattle.std.specs.List.{list_any}
 use Rattle.unix_names.specs.declared.Pid.{Pid}
 use Rattle.unix_calls.specs.declared.Call.{Call}
 use Rattle.unix_calls.specs.declared.Call.TheVariants.{Exit, Kill, Setpgid, Setsid}
@@ -14,7 +15,7 @@ use Rattle.ordered_table.specs.Entries.{pids_of}
 use Rattle.proc_image.specs.declared.image.Image.{Image}
 use Rattle.proc_image.specs.Images.{IsFit}
 use Rattle.kernel_rules.specs.declared.rows.Row.{Row}
-use Rattle.kernel_rules.specs.Rows.{is_stopped}
+use Rattle.kernel_rules.specs.Rows.{is_same, is_stopped}
 use Rattle.kernel_model.specs.Changes.{is_at_risk}
 use Rattle.cluster_core.specs.declared.machine.Machine.{Machine}
 use Rattle.cluster_core.specs.Run.{is_stopped_phase}
@@ -23,6 +24,14 @@ use Rattle.cluster_core.specs.Machine.{Groups, members_of, others, told_of_kill_
 -- the process of the row is stopped
 abbrev pub is_stopped_row : Row → Bool
 is_stopped_row c = is_stopped c.life
+
+-- the groups of the processes that are stopped
+abbrev pub stopped_groups : List Row → List Pid
+stopped_groups rows = map (λ c. c.group) (filter is_stopped_row rows)
+
+-- whether a process or a group is one of these
+abbrev pub is_listed : Pid → List Pid → Bool
+is_listed g pids = list_any (λ q. is_same q g) pids
 
 -- the members of a group but one
 abbrev pub others_in : Groups → Pid → Pid → List Pid

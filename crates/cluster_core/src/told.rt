@@ -5,7 +5,7 @@ ghost use Rattle.unix_calls.specs.Calls.{HasNames, EntryHasNames, IsName};
 ghost use Rattle.ordered_table.specs.Entries.{pids_of};
 ghost use Rattle.kernel_model.specs.Changes.{is_at_risk, is_left};
 ghost use Rattle.cluster_core.specs.Machine.{members_of, others, told_of_kill, told_of_kill_call, told_of_move, told_of_setpgid, told_of_setsid};
-ghost use Rattle.cluster_core.specs.Commit.{is_stopped_row, others_in, told_first_of_call, told_first_of_event, told_first, is_end, risked};
+ghost use Rattle.cluster_core.specs.Commit.{is_stopped_row, stopped_groups, is_listed, others_in, told_first_of_call, told_first_of_event, told_first, is_end, risked};
 
 use crate::groups::Groups;
 use kernel_rules::{Row, find_named, has_stopped, is_orphaned, is_stopped, wanted_group};
@@ -203,16 +203,45 @@ fn has_stopped_row(rows: &[Row]) -> bool
     rows.iter().any(|row| is_stopped(row.life))
 }
 
-fn is_at_risk(rows: &[Row], group: Pid) -> bool
-    ensures { result ≡ is_at_risk rows.now group }
+/// The groups of the processes that are stopped.
+#[tactic(auto, using(crate::proofs::ToldLaws::stopped_more))]
+fn stopped_groups(alloc: Global, rows: &[Row]) -> Result<Vec<Pid>, NoMemory>
+    ensures { IfOk result (λ groups. groups.items ≡ stopped_groups rows.now) }
 {
-    has_stopped(rows, group) && !is_orphaned(rows, group)
+    let mut groups = Vec::new(alloc);
+    for row in rows {
+        if is_stopped(row.life) {
+            groups.push(row.group)?;
+        }
+    }
+    Ok(groups)
 }
 
-fn add_at_risk(risk: &mut Seq<Pid>, rows: &[Row], group: Pid) -> Result<(), NoMemory>
+fn is_listed(pids: &[Pid], pid: Pid) -> bool
+    ensures { result ≡ is_listed pid pids.now }
+{
+    pids.iter().any(|other| *other == pid)
+}
+
+// A group is looked up among those of the stopped processes first, which are few.
+#[tactic(auto, using(crate::proofs::ToldLaws::listed_stopped))]
+fn is_at_risk(rows: &[Row], stopped: &[Pid], group: Pid) -> bool
+    requires { stopped.now ≡ stopped_groups rows.now }
+    ensures { result ≡ is_at_risk rows.now group }
+{
+    is_listed(stopped, group) && !is_orphaned(rows, group)
+}
+
+fn add_at_risk(
+    risk: &mut Seq<Pid>,
+    rows: &[Row],
+    stopped: &[Pid],
+    group: Pid,
+) -> Result<(), NoMemory>
+    requires { stopped.now ≡ stopped_groups rows.now }
     ensures { OnOk result (risk.new ≡ risk.old ++ (if is_at_risk rows.now group then group ∷ [] else [])) }
 {
-    if is_at_risk(rows, group) {
+    if is_at_risk(rows, stopped, group) {
         risk.push(group)?;
     }
     Ok(())
@@ -227,8 +256,9 @@ fn groups_at_risk(alloc: Global, rows: &[Row], groups: &Groups) -> Result<Seq<Pi
     if !has_stopped_row(rows) {
         return Ok(risk);
     }
+    let stopped = stopped_groups(alloc, rows)?;
     for members in groups.as_slice() {
-        add_at_risk(&mut risk, rows, members.pid)?;
+        add_at_risk(&mut risk, rows, &stopped, members.pid)?;
     }
     Ok(risk)
 }
