@@ -4,7 +4,7 @@ use Rattle.std.proofs.Math.Seq.{take-length}
 use Rattle.std.specs.Prelude.{◌<◌, ◌^◌, slice_range}
 use Rattle.byte_ends.specs.Text.{lines}
 use Rattle.unix_calls.specs.declared.World.{World}
-use Rattle.script_reader.specs.declared.faults.Fault.{Fault}
+use Rattle.script_words.specs.declared.faults.Fault.{Fault}
 use Rattle.script_reader.specs.Files.{read_part}
 use Rattle.load_maker.specs.Made.{made}
 use Rattle.load_laws.specs.Worlds.{made_world}

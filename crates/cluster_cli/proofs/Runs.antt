@@ -14,12 +14,11 @@ use Rattle.unix_calls.specs.declared.Turn.{Turn}
 use Rattle.unix_calls.specs.declared.Turn.TheVariants.{Go, Push, Take, Auto}
 use Rattle.unix_calls.specs.declared.World.{World}
 use Rattle.unix_calls.specs.Valid.{IsValid}
-use Rattle.script_reader.specs.declared.faults.Fault.{Fault}
-use Rattle.script_reader.specs.declared.faults.Kind.{Kind}
-use Rattle.script_reader.specs.Words.{Row, ◌>>=◌, is_same, is_number}
-use Rattle.script_reader.specs.Lines.{is_skipped}
-use Rattle.script_reader.specs.declared.faults.Kind.TheVariants.{NotUtf8, TooManyTurns}
-use Rattle.script_reader.specs.declared.faults.Kind.TheVariants.{UnknownWord}
+use Rattle.script_words.specs.declared.faults.Fault.{Fault}
+use Rattle.script_words.specs.declared.faults.Kind.{Kind}
+use Rattle.script_words.specs.Words.{Row, ◌>>=◌, is_same, is_number, is_skipped}
+use Rattle.script_words.specs.declared.faults.Kind.TheVariants.{NotUtf8, TooManyTurns}
+use Rattle.script_words.specs.declared.faults.Kind.TheVariants.{UnknownWord}
 use Rattle.script_reader.specs.Files.{fault_at, read_part}
 use Rattle.file_parts.specs.Parts.{is_only, world_lines, front_lines, schedule_lines, history_lines}
 use Rattle.unix_calls.specs.declared.Entry.{Entry}
@@ -27,7 +26,7 @@ use Rattle.unix_calls.specs.declared.Entry.TheVariants.{Called, Happened}
 use Rattle.unix_calls.specs.declared.Call.TheVariants as calls
 use Rattle.run_text.specs.History.{IsEntry}
 use Rattle.cluster_laws.specs.Stands.{IsWhole}
-use Rattle.script_reader.proofs.Numbers.{is_number-decides}
+use Rattle.script_words.proofs.Numbers.{is_number-decides}
 use Rattle.script_laws.specs.Grammar.{Naming, Part, silent, opens}
 use Rattle.script_laws.proofs.Words.{words_same}
 use Rattle.script_laws.proofs.Exact.{read_is_file}

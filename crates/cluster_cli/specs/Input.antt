@@ -7,10 +7,10 @@ use Rattle.unix_calls.specs.declared.Turn.{Turn}
 use Rattle.unix_calls.specs.declared.Turn.TheVariants.{Auto}
 use Rattle.unix_calls.specs.declared.World.{World}
 use Rattle.file_parts.specs.Parts.{Lines, world_lines, front_lines, schedule_lines, history_lines}
-use Rattle.script_reader.specs.declared.faults.Fault.{Fault}
-use Rattle.script_reader.specs.declared.faults.Kind.TheVariants.{UnknownWord}
-use Rattle.script_reader.specs.Kinds.{name_of}
-use Rattle.script_reader.specs.Words.{Row, is_same, is_number}
+use Rattle.script_words.specs.declared.faults.Fault.{Fault}
+use Rattle.script_words.specs.declared.faults.Kind.TheVariants.{UnknownWord}
+use Rattle.script_words.specs.Kinds.{name_of}
+use Rattle.script_words.specs.Words.{Row, is_same, is_number}
 use Rattle.script_reader.specs.Files.{fault_at, read_part}
 use Rattle.run_text.specs.Schedule.{schedule}
 use Rattle.cluster_cli.specs.declared.input.Given.{Given}

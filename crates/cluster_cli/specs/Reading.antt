@@ -3,9 +3,9 @@ use Rattle.std.specs.Prelude.{◌≡◌, ℕ, ◌+◌, List, length, Result, Ok,
 use Rattle.byte_ends.specs.Text.{lines}
 use Rattle.file_parts.specs.declared.parts.Parts.{Parts}
 use Rattle.file_parts.specs.Parts.{IsPart, IsPartOf, world_lines, front_lines, schedule_lines, history_lines}
-use Rattle.script_reader.specs.declared.faults.Fault.{Fault}
-use Rattle.script_reader.specs.declared.faults.ReadRefusal.{ReadRefusal}
-use Rattle.script_reader.specs.declared.faults.ReadRefusal.TheVariants.{Bad, NoMemory}
+use Rattle.script_words.specs.declared.faults.Fault.{Fault}
+use Rattle.script_words.specs.declared.faults.ReadRefusal.{ReadRefusal}
+use Rattle.script_words.specs.declared.faults.ReadRefusal.TheVariants.{Bad, NoMemory}
 
 -- a reading answers what is meant, or the fault, or that there is no memory
 abbrev pub IsReading : {A : Type 0} → Result A ReadRefusal → Result A Fault → Type 0

@@ -21,7 +21,7 @@ use file_parts::{Parts, Span, split};
 use history_reader::{TextRefusal, read_history};
 use kernel_model::Rule;
 use run_text::put_history;
-use script_reader::{Fault, ReadRefusal};
+use script_words::{Fault, ReadRefusal};
 use std::alloc::{AllocError, Global};
 use unix_calls::{Entry, World};
 use unix_names::NoMemory;

@@ -4,8 +4,8 @@ ghost use Rattle.byte_ends.specs.Text.{lines, words as words_in};
 ghost use Rattle.file_parts.specs.Parts.{IsPart, IsPartOf, world_lines, front_lines, schedule_lines, history_lines};
 ghost use Rattle.std.specs.Prelude.{Result, ◌&&◌, ◌+◌};
 ghost use Rattle.std.specs.Str.Parse.{digits_value};
-ghost use Rattle.script_reader.specs.declared.faults.Fault.{Fault};
-ghost use Rattle.script_reader.specs.Words.{is_same, is_number};
+ghost use Rattle.script_words.specs.declared.faults.Fault.{Fault};
+ghost use Rattle.script_words.specs.Words.{is_same, is_number};
 ghost use Rattle.script_reader.specs.Files.{fault_at};
 ghost use Rattle.cluster_cli.specs.Reading.{IsReading, AreParts};
 ghost use Rattle.cluster_cli.specs.Ends.{input_limit};
@@ -14,7 +14,8 @@ ghost use Rattle.cluster_cli.specs.Input as spec;
 use byte_ends::{next_line, number_at, words_of};
 use file_parts::{Parts, Span, split};
 use run_text::read_schedule;
-use script_reader::{Fault, Kind, ReadRefusal, read_file};
+use script_reader::read_file;
+use script_words::{Fault, Kind, ReadRefusal};
 use std::alloc::Global;
 use unix_calls::{Turn, World};
 use unix_names::{NoMemory, Seq};
@@ -139,7 +140,7 @@ fn asks_many(words: &[&[u8]]) -> bool
     }
 }
 
-#[tactic(auto, unfolding(script_reader::specs::Words::is_same))]
+#[tactic(auto, unfolding(script_words::specs::Words::is_same))]
 fn is_word(word: &[u8], text: &str) -> bool
     ensures { result ≡ is_same word.now text.now }
 {

@@ -3,8 +3,8 @@ use Rattle.std.proofs.Common.{inl, inr, ◌≡◌, ℕ, zero, suc, neg_ℤ, lit<
 use Rattle.std.specs.Fmt.{decimal, signed_decimal}
 use Rattle.std.proofs.lemmas.Bool.{cases_Bool}
 use Rattle.std.proofs.lemmas.Bool.Decides.{nat_tests}
-use Rattle.script_reader.specs.Words.{Word, Row, is_same, word_at, is_number}
-use Rattle.script_reader.proofs.Numbers.{is_number-decides}
+use Rattle.script_words.specs.Words.{Word, Row, is_same, word_at, is_number}
+use Rattle.script_words.proofs.Numbers.{is_number-decides}
 use Rattle.unix_names.specs.declared.Signal.{Signal}
 use Rattle.unix_names.specs.declared.Signal.TheVariants.{Hup, Int, Quit, Abrt, Kill, Usr1, Usr2, Pipe, Alrm, Term, Chld, Cont, Stop, Tstp, Ttin, Ttou, Urg}
 use Rattle.unix_names.specs.declared.Act.{Act}

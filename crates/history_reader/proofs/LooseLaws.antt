@@ -15,8 +15,8 @@ use Rattle.std.proofs.lemmas.Str.Parse.{digit_from_value}
 use Rattle.std.proofs.lemmas.List.Sums.{take_while-cons}
 use borrow.Author.Tests.{eqb-true}
 use Rattle.byte_ends.specs.Text.{IsNumber}
-use Rattle.script_reader.specs.Words.{Word, is_same, is_number}
-use Rattle.script_reader.proofs.Numbers.{is_number-decides}
+use Rattle.script_words.specs.Words.{Word, is_same, is_number}
+use Rattle.script_words.proofs.Numbers.{is_number-decides}
 use Rattle.text_laws.proofs.Numbers.{IsNumber-decimal, digits_value-decimal}
 use Rattle.unix_names.specs.declared.Signal.{Signal}
 use Rattle.unix_names.specs.declared.Signal.TheVariants.{Hup, Int, Quit, Abrt, Kill, Usr1, Usr2, Pipe, Alrm, Term, Chld, Cont, Stop, Tstp, Ttin, Ttou, Urg}

@@ -17,7 +17,7 @@ use Rattle.unix_calls.specs.declared.Event.{Event}
 use Rattle.unix_calls.specs.declared.Event.TheVariants as events
 use Rattle.unix_calls.specs.declared.Entry.{Entry}
 use Rattle.unix_calls.specs.declared.Entry.TheVariants.{Called, Happened}
-use Rattle.script_reader.specs.Lines.{is_skipped, begins_with_hash}
+use Rattle.script_words.specs.Words.{is_skipped, begins_with_hash}
 use Rattle.file_parts.specs.Parts.{Lines, stands_alone, is_only}
 use Rattle.text_laws.specs.Plain.{is_plain, are_plain}
 use Rattle.text_laws.proofs.Lines.{lines-newline}

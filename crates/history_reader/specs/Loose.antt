@@ -19,7 +19,7 @@ use Rattle.unix_calls.specs.declared.Event.{Event}
 use Rattle.unix_calls.specs.declared.Event.TheVariants as events
 use Rattle.unix_calls.specs.declared.Entry.{Entry}
 use Rattle.unix_calls.specs.declared.Entry.TheVariants.{Called, Happened}
-use Rattle.script_reader.specs.Words.{Word, Row, is_same, word_at, is_number}
+use Rattle.script_words.specs.Words.{Word, Row, is_same, word_at, is_number}
 use Rattle.history_reader.specs.declared.verbs.Verb.{Verb}
 use Rattle.history_reader.specs.declared.verbs.Verb.TheVariants as verb
 

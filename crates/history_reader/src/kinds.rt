@@ -1,32 +1,11 @@
 // What a line is beside an entry.
 ghost use Rattle.std.specs.Prelude.{◌≡◌, ◌||◌, codes, map};
-ghost use Rattle.script_reader.specs.Lines.{is_skipped as says_nothing, begins_with_hash};
 ghost use Rattle.file_parts.specs.Parts.{stands_alone};
 
-use crate::words::is_word;
-
-fn begins_with_hash(word: &[u8]) -> bool
-    ensures { result ≡ begins_with_hash word.now }
-{
-    match word {
-        [] => false,
-        [first, ..] => *first == b'#',
-    }
-}
-
-/// Whether a line of these words says nothing: it has none, or the first begins with `#`.
-#[tactic(auto, unfolding(script_reader::specs::Lines::is_skipped))]
-pub fn is_skipped(words: &[&[u8]]) -> bool
-    ensures { result ≡ says_nothing (map (λ w. w.now) words.now) }
-{
-    match words {
-        [] => true,
-        [first, ..] => begins_with_hash(first),
-    }
-}
+use script_words::is_word;
 
 /// Whether a line of these words has one, a given text.
-#[tactic(auto, unfolding(script_reader::specs::Words::is_same))]
+#[tactic(auto, unfolding(script_words::specs::Words::is_same))]
 pub fn is_only(words: &[&[u8]], text: &str) -> bool
     ensures { result ≡ stands_alone text.now (map (λ w. w.now) words.now) }
 {

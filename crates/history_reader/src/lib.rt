@@ -9,6 +9,5 @@ mod reader;
 #[cfg(test)]
 mod tests;
 mod verbs;
-mod words;
 
 pub use reader::{TextRefusal, read_history};

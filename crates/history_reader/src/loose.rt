@@ -1,10 +1,10 @@
 // What the words of a line seem to say.
 ghost use Rattle.std.specs.Prelude.{◌≡◌, ◌<◌, ◌≤◌, ◌^◌, drop, map, length};
-ghost use Rattle.script_reader.specs.Words.{is_number};
+ghost use Rattle.script_words.specs.Words.{is_number};
 ghost use Rattle.history_reader.specs.Loose as spec;
 
 use crate::verbs::{Verb, verb_named};
-use crate::words::{is_word, word_at};
+use script_words::{is_word, word_at};
 use byte_ends::number_at;
 use unix_calls::{Call, Entry, Event, Reply};
 use unix_names::{Act, Errno, Pid, SigSet, Signal, WaitStatus, number_of, signal_named};

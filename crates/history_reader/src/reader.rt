@@ -5,7 +5,8 @@ ghost use Rattle.history_reader.specs.declared.reader.TextRefusal.TheVariants.{N
 ghost use Rattle.history_reader.specs.Reading.{IsHistory, IsFirstBad, IsEndBad, Ends};
 
 use crate::entries::entry_of;
-use crate::kinds::{is_last, is_only, is_skipped};
+use crate::kinds::{is_last, is_only};
+use script_words::is_skipped;
 use byte_ends::{next_line, words_of};
 use file_parts::Span;
 use std::alloc::{AllocError, AllocFailed, Global};

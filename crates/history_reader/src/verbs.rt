@@ -2,7 +2,7 @@
 ghost use Rattle.std.specs.Prelude.{◌≡◌};
 ghost use Rattle.history_reader.specs.Loose.{text_of, verb_named};
 
-use crate::words::is_word;
+use script_words::is_word;
 
 /// What a call begins with.
 #[derive(Clone, Copy, Debug, PartialEq, Eq)]

@@ -8,7 +8,7 @@ use Rattle.std.proofs.lemmas.Bool.Decides.{nat_tests}
 use Rattle.std.proofs.lemmas.Fmt.{decimal_injective, length-decimal-le}
 use Rattle.std.proofs.lemmas.List.Elements.{All-nil, All-cons, All-append}
 use Rattle.std.proofs.lemmas.Str.Parse.{digit_from_value}
-use Rattle.script_reader.specs.Words.{Word, is_name_byte, reserved}
+use Rattle.script_words.specs.Words.{Word, is_name_byte, reserved}
 use Rattle.script_laws.specs.Grammar.{IsName, IsCalled, AreNames}
 use Rattle.load_maker.specs.Made.{worker_name, leader_name, child_name, start_name}
 use Rattle.load_laws.specs.Worlds.{firsts}

@@ -11,7 +11,7 @@ use Rattle.unix_calls.specs.declared.Start.{Start}
 use Rattle.unix_calls.specs.declared.Statement.{Statement}
 use Rattle.unix_calls.specs.declared.Statement.TheVariants as statement
 use Rattle.text_laws.proofs.Numbers.{IsNumber-decimal, digits_value-decimal}
-use Rattle.script_reader.specs.Words.{Word, Row}
+use Rattle.script_words.specs.Words.{Word, Row}
 use Rattle.script_laws.specs.Grammar.{Naming, IsCalled, IsFor, Spells, SpellsStart, Lines, ends, skips, starts, begins, says, closes}
 use Rattle.load_maker.specs.Made.{drawn, stepped, after_statement, after_workers, after_children, after_leaders, child_count, worker_name, leader_name, child_name, start_name, statement_row, worker_rows, all_workers, fork_row, fork_rows, wait_rows, leader_rows, all_leaders, start_row, all_starts}
 use Rattle.load_laws.specs.Worlds.{firsts, drawn_statement, worker, fork, wait, leader, start}

@@ -1,4 +1,3 @@
 pub mod Ascii
 pub mod ScheduleLaws
-pub mod Texts
 pub mod Turns

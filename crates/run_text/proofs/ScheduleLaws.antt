@@ -8,11 +8,9 @@ use Rattle.std.proofs.lemmas.Bool.Decides.{nat_tests}
 use Rattle.byte_ends.specs.Text.{lines}
 use Rattle.unix_calls.specs.declared.Turn.{Turn}
 use Rattle.unix_calls.specs.declared.Turn.TheVariants.{Go, Push, Take, Auto}
-use Rattle.script_reader.specs.declared.Kind.{Kind}
-use Rattle.script_reader.specs.Words.{is_same, word_at, number, is_number}
-use Rattle.script_reader.specs.Statements.{node, ended}
-use Rattle.script_reader.specs.Lines.{is_skipped}
-use Rattle.script_reader.proofs.Numbers.{is_number-decides}
+use Rattle.script_words.specs.declared.Kind.{Kind}
+use Rattle.script_words.specs.Words.{is_same, word_at, number, is_number, node, ended, is_skipped}
+use Rattle.script_words.proofs.Numbers.{is_number-decides}
 use Rattle.text_laws.specs.Plain.{is_plain, are_plain}
 use Rattle.text_laws.proofs.Lines.{AreLines, lines-written}
 use Rattle.text_laws.proofs.Words.{words-spaced, line-spaced}

@@ -1,7 +1,7 @@
 -- reading a schedule line by line
 use Rattle.std.proofs.Common.{◌≡◌, ℕ, List, [], ◌∷◌, fold, Option, Result, Ok, Err, refl, ap, sym, ◌∙◌}
-use Rattle.script_reader.specs.declared.Kind.{Kind}
-use Rattle.script_reader.specs.declared.Fault.{Fault}
+use Rattle.script_words.specs.declared.Kind.{Kind}
+use Rattle.script_words.specs.declared.Fault.{Fault}
 use Rattle.run_text.specs.Schedule.{SoFar, added, after_line, read_turn, turns_of}
 
 fault-stays : (nodes : ℕ) (fault : Fault) (ls : List (List ℕ)) → fold (after_line nodes) (Err fault) ls ≡ Err fault

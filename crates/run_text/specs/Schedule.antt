@@ -6,12 +6,10 @@ use Rattle.std.specs.Str.{is_utf8}
 use Rattle.byte_ends.specs.Text.{words}
 use Rattle.unix_calls.specs.declared.Turn.{Turn}
 use Rattle.unix_calls.specs.declared.Turn.TheVariants.{Go, Push, Take, Auto}
-use Rattle.script_reader.specs.declared.Kind.{Kind}
-use Rattle.script_reader.specs.declared.Kind.TheVariants.{NotUtf8, UnknownWord, TooManyTurns}
-use Rattle.script_reader.specs.declared.Fault.{Fault}
-use Rattle.script_reader.specs.Words.{Row, ◌>>=◌, is_same, word_at, number}
-use Rattle.script_reader.specs.Statements.{node, ended}
-use Rattle.script_reader.specs.Lines.{is_skipped}
+use Rattle.script_words.specs.declared.Kind.{Kind}
+use Rattle.script_words.specs.declared.Kind.TheVariants.{NotUtf8, UnknownWord, TooManyTurns}
+use Rattle.script_words.specs.declared.Fault.{Fault}
+use Rattle.script_words.specs.Words.{Row, ◌>>=◌, is_same, word_at, number, node, ended, is_skipped}
 use Rattle.run_text.specs.History.{spaced}
 
 -- how many turns a line stands for

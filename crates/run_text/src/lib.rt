@@ -6,7 +6,6 @@ pub mod laws;
 mod schedule;
 #[cfg(test)]
 mod tests;
-mod words;
 
 pub use history::{put_entry, put_history};
 pub use schedule::{MOST_TURNS, put_schedule, read_schedule, turns_in};

@@ -2,13 +2,14 @@
 ghost use Rattle.std.specs.Prelude.{◌≡◌, ◌≤◌, ◌<◌, ◌^◌, ◌++◌, ◌∷◌, [], ◌+◌, All, IfOk, IfSome, OnOk, length, map, slice_range, Ok, Err};
 ghost use Rattle.std.specs.String.{string_bytes};
 ghost use Rattle.byte_ends.specs.Text.{lines, words as words_in};
-ghost use Rattle.script_reader.specs.declared.Fault.{Fault};
+ghost use Rattle.script_words.specs.declared.Fault.{Fault};
 ghost use Rattle.run_text.specs.Schedule as spec;
 
-use crate::words::{ended, is_skipped, is_utf8, is_word, node, number, word_at};
 use byte_ends::{next_line, words_of};
 use file_parts::Span;
-use script_reader::{Fault, Kind, ReadRefusal};
+use script_words::{
+    Fault, Kind, ReadRefusal, ended, is_skipped, is_utf8, is_word, node, number, word_at,
+};
 use std::alloc::{AllocError, Global};
 use unix_calls::Turn;
 use unix_names::NoMemory;

@@ -2,7 +2,7 @@ ghost use Rattle.std.specs.Prelude.{◌≡◌, length};
 
 use crate::{put_schedule, read_schedule};
 use file_parts::Span;
-use script_reader::{Fault, Kind, ReadRefusal};
+use script_words::{Fault, Kind, ReadRefusal};
 use std::test::Fail;
 use unix_calls::Turn;
 

@@ -23,7 +23,7 @@ use Rattle.unix_calls.specs.declared.Statement.{Statement}
 use Rattle.unix_calls.specs.declared.Statement.TheVariants as statement
 use Rattle.unix_calls.specs.declared.World.{World}
 use Rattle.unix_calls.specs.Valid.{IsNode, IsArgument, IsStatement}
-use Rattle.script_reader.specs.Words.{Row}
+use Rattle.script_words.specs.Words.{Row}
 use Rattle.script_writer.specs.Written.{script_name, variable_name, arg_word, target_word, selector_word, change_words, signal_or_number, act_word, site_words, wait_word, statement_words, script_rows, scripts_rows, uid_words, with_words, joined_words, start_row, file_rows, spelled, file_text}
 use Rattle.script_laws.specs.Writable.{IsWrittenStatement, assigned, assigned_by, variables_of, AreInOrder, IsWritable}
 use Rattle.script_laws.specs.Grammar.{Part, IsFile}

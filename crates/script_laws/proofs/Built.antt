@@ -10,7 +10,7 @@ use Rattle.script_reader.specs.declared.names.Names.{Names}
 use Rattle.script_reader.specs.declared.places.Place.{Place}
 use Rattle.script_reader.specs.declared.lines.Item.{Item}
 use Rattle.script_reader.specs.declared.lines.Item.TheVariants as item
-use Rattle.script_reader.specs.Words.{Word, Row, word_at}
+use Rattle.script_words.specs.Words.{Word, Row, word_at}
 use Rattle.script_reader.specs.Lines.{place_after}
 use Rattle.script_reader.specs.Files.{words_behind, Told, place_behind, said, with_said, body, scripts_of, start_of, judged}
 use Rattle.script_laws.specs.Grammar.{Naming, Lines, ends as no_more, skips, starts as a_start, begins as a_script, says as a_statement, closes}

@@ -9,8 +9,8 @@ use Rattle.std.proofs.lemmas.Option.{slice_get-get_or}
 use Rattle.std.proofs.lemmas.List.Elements.{All-from_recursion}
 use Rattle.list_laws.proofs.Filters.{or_true}
 use Rattle.text_laws.proofs.Numbers.{IsNumber-decimal, digits_value-decimal}
-use Rattle.script_reader.specs.Words.{Word, is_lower, is_digit, is_name_byte, is_number, reserved}
-use Rattle.script_reader.proofs.Numbers.{is_number-decides}
+use Rattle.script_words.specs.Words.{Word, is_lower, is_digit, is_name_byte, is_number, reserved}
+use Rattle.script_words.proofs.Numbers.{is_number-decides}
 use Rattle.script_laws.specs.Grammar.{IsName, IsCalled, AreNames, IsFor}
 
 pub for_decimal : (n : ℕ) → n < 2 ^ 32 → IsFor (decimal n) n

@@ -11,11 +11,11 @@ use Rattle.unix_calls.specs.declared.Script.{Script}
 use Rattle.unix_calls.specs.declared.Start.{Start}
 use Rattle.unix_calls.specs.declared.Work.{Work}
 use Rattle.unix_calls.specs.Work.{works}
-use Rattle.script_reader.specs.declared.faults.Kind.TheVariants.{NotUtf8, UnknownWord, NoStart}
+use Rattle.script_words.specs.declared.faults.Kind.TheVariants.{NotUtf8, UnknownWord, NoStart}
 use Rattle.script_reader.specs.declared.names.Names.{Names}
 use Rattle.script_reader.specs.declared.places.Place.{Place}
 use Rattle.script_reader.specs.declared.lines.Item.{Item}
-use Rattle.script_reader.specs.Words.{Word, Row, word_at, number}
+use Rattle.script_words.specs.Words.{Word, Row, word_at, number}
 use Rattle.script_reader.specs.Names.{number_in}
 use Rattle.script_reader.specs.Lines.{read_row, read_line, place_after}
 use Rattle.script_reader.specs.Files.{begins_with, words_behind, gather, listed, numbered, Told, first_place, tells, place_behind, scripts_of, body, judged}

@@ -3,11 +3,11 @@ use Rattle.std.proofs.Common.{◌≡◌, inl, inr, ◌++◌, ℕ, zero, suc, ◌
 use Rattle.std.specs.Prelude.{codes, slice_get, nat_le, nat_lt}
 use Rattle.std.proofs.lemmas.Bool.{ltb-true}
 use Rattle.unix_calls.specs.declared.Start.{Start}
-use Rattle.script_reader.specs.declared.faults.Kind.TheVariants.{UnknownWord}
+use Rattle.script_words.specs.declared.faults.Kind.TheVariants.{UnknownWord}
 use Rattle.script_reader.specs.declared.names.Names.{Names}
 use Rattle.script_reader.specs.declared.places.Place.{Place}
 use Rattle.script_reader.specs.declared.lines.StartLine.{StartLine}
-use Rattle.script_reader.specs.Words.{Word, Row, found, is_same, word_at, name, number}
+use Rattle.script_words.specs.Words.{Word, Row, found, is_same, word_at, name, number}
 use Rattle.script_reader.specs.Names.{number_in}
 use Rattle.script_reader.specs.Lines.{user, earlier_start, joined}
 use Rattle.script_reader.specs.Files.{start_of}

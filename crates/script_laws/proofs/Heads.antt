@@ -8,9 +8,9 @@ use Rattle.script_reader.specs.declared.statements.Verb.TheVariants as verb
 use Rattle.script_reader.specs.declared.lines.Head.{Head}
 use Rattle.script_reader.specs.declared.lines.Head.TheVariants as head
 use Rattle.script_reader.specs.declared.lines.Item.{Item}
-use Rattle.script_reader.specs.Words.{Word, Row, is_same, word_at}
+use Rattle.script_words.specs.Words.{Word, Row, is_same, word_at, is_skipped}
 use Rattle.script_reader.specs.Statements.{text_of, verb_named}
-use Rattle.script_reader.specs.Lines.{is_skipped, head_of, later_line, read_row, nodes_after, placed_after, place_after}
+use Rattle.script_reader.specs.Lines.{head_of, later_line, read_row, nodes_after, placed_after, place_after}
 
 -- a word that says how its line is read
 pub record IsHead (word : Word) (h : Head) : Type 0 where

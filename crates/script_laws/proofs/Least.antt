@@ -6,15 +6,15 @@ use Rattle.unix_calls.specs.declared.World.{World}
 use Rattle.unix_calls.specs.declared.Start.{Start}
 use Rattle.unix_calls.specs.declared.Work.{Work}
 use Rattle.unix_calls.specs.Work.{works, total_work}
-use Rattle.script_reader.specs.declared.faults.Kind.{Kind}
-use Rattle.script_reader.specs.declared.faults.Kind.TheVariants.{TooMuchWork}
-use Rattle.script_reader.specs.declared.faults.Fault.{Fault}
+use Rattle.script_words.specs.declared.faults.Kind.{Kind}
+use Rattle.script_words.specs.declared.faults.Kind.TheVariants.{TooMuchWork}
+use Rattle.script_words.specs.declared.faults.Fault.{Fault}
 use Rattle.script_reader.specs.declared.names.Names.{Names}
 use Rattle.script_reader.specs.declared.places.Place.{Place}
 use Rattle.script_reader.specs.declared.lines.Item.{Item}
 use Rattle.script_reader.specs.declared.lines.Item.TheVariants as item
 use Rattle.script_reader.specs.declared.lines.StartLine.{StartLine}
-use Rattle.script_reader.specs.Words.{Row}
+use Rattle.script_words.specs.Words.{Row}
 use Rattle.script_reader.specs.Lines.{read_line, place_after}
 use Rattle.script_reader.specs.Files.{Told, tells, first_place, place_behind, scripts_of, with_start, is_little, fault_at, judged, end_kind, ended_world, whole_world, silent_kind, told_part, read_part}
 use Rattle.script_laws.specs.Grammar.{IsFile}

@@ -3,7 +3,7 @@ use Rattle.std.proofs.Common.{◌≡◌, ◌==◌, ◌&&◌, ℕ, ◌≤◌, Boo
 use Rattle.std.specs.Prelude.{codes, nat_le, nat_lt}
 use Rattle.std.proofs.lemmas.Bool.{ltb-true, leb-true, and_parts}
 use Rattle.unix_calls.specs.declared.world.Statement.{Statement}
-use Rattle.script_reader.specs.declared.faults.Kind.TheVariants.{NoClusterLine, UnknownWord, TooManyNodes, TooManyScripts, TooManyStatements, TooManyStarts, DoubleName}
+use Rattle.script_words.specs.declared.faults.Kind.TheVariants.{NoClusterLine, UnknownWord, TooManyNodes, TooManyScripts, TooManyStatements, TooManyStarts, DoubleName}
 use Rattle.script_reader.specs.declared.names.Names.{Names}
 use Rattle.script_reader.specs.declared.places.Place.{Place}
 use Rattle.script_reader.specs.declared.statements.Verb.{Verb}
@@ -12,9 +12,9 @@ use Rattle.script_reader.specs.declared.lines.Head.TheVariants as head
 use Rattle.script_reader.specs.declared.lines.Item.{Item}
 use Rattle.script_reader.specs.declared.lines.Item.TheVariants as item
 use Rattle.script_reader.specs.declared.lines.StartLine.{StartLine}
-use Rattle.script_reader.specs.Words.{Row, is_same, word_at, name, number}
-use Rattle.script_reader.specs.Statements.{ended, text_of, node, script, statement_of, verb_named}
-use Rattle.script_reader.specs.Lines.{is_skipped, head_of, is_numbered, cluster_line, script_line, end_line, statement_line, start_variable, user, joined, start_words, start_line, later_line, read_row, nodes_after, placed_after, place_after}
+use Rattle.script_words.specs.Words.{Row, is_same, word_at, name, number, ended, node, is_skipped}
+use Rattle.script_reader.specs.Statements.{text_of, script, statement_of, verb_named}
+use Rattle.script_reader.specs.Lines.{head_of, is_numbered, cluster_line, script_line, end_line, statement_line, start_variable, user, joined, start_words, start_line, later_line, read_row, nodes_after, placed_after, place_after}
 use Rattle.script_laws.proofs.Results.{next_ok, then_ok, else_ok, ended_ok}
 use Rattle.script_laws.proofs.Words.{same_words, BeginsSo, head_word}
 

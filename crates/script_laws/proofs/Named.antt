@@ -7,7 +7,7 @@ use Rattle.unix_calls.specs.declared.Script.{Script}
 use Rattle.unix_calls.specs.declared.Start.{Start}
 use Rattle.unix_calls.specs.declared.Statement.{Statement}
 use Rattle.unix_calls.specs.declared.Statement.TheVariants as statement
-use Rattle.script_reader.specs.Words.{Word, Row, is_same, word_at}
+use Rattle.script_words.specs.Words.{Word, Row, is_same, word_at}
 use Rattle.script_reader.specs.Statements.{text_of}
 use Rattle.script_reader.specs.Files.{begins_with, words_behind}
 use Rattle.script_laws.specs.Writable.{assigned, assigned_by}

@@ -12,13 +12,13 @@ use Rattle.unix_calls.specs.declared.Start.{Start}
 use Rattle.unix_calls.specs.declared.Work.{Work}
 use Rattle.unix_calls.specs.declared.world.Statement.{Statement}
 use Rattle.unix_calls.specs.Work.{works}
-use Rattle.script_reader.specs.declared.faults.Kind.{Kind}
-use Rattle.script_reader.specs.declared.faults.Kind.TheVariants.{UnknownWord, NoStart}
+use Rattle.script_words.specs.declared.faults.Kind.{Kind}
+use Rattle.script_words.specs.declared.faults.Kind.TheVariants.{UnknownWord, NoStart}
 use Rattle.script_reader.specs.declared.names.Names.{Names}
 use Rattle.script_reader.specs.declared.places.Place.{Place}
 use Rattle.script_reader.specs.declared.lines.Item.{Item}
 use Rattle.script_reader.specs.declared.lines.Item.TheVariants as item
-use Rattle.script_reader.specs.Words.{Word, Row, word_at}
+use Rattle.script_words.specs.Words.{Word, Row, word_at}
 use Rattle.script_reader.specs.Names.{Table}
 use Rattle.script_reader.specs.Lines.{read_line, place_after}
 use Rattle.script_reader.specs.Files.{begins_with, words_behind, gather, Told, first_place, tells, said, with_said, body, scripts_of, start_of, judged, listed}

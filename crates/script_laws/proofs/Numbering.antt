@@ -6,7 +6,7 @@ use Rattle.std.proofs.lemmas.List.{get_or-take, length-take-le}
 use Rattle.unix_calls.specs.declared.World.{World}
 use Rattle.unix_calls.specs.declared.Start.{Start}
 use Rattle.unix_calls.specs.Valid.{IsValid}
-use Rattle.script_reader.specs.Words.{Word, Row}
+use Rattle.script_words.specs.Words.{Word, Row}
 use Rattle.script_reader.specs.Names.{Table, number_in, noted}
 use Rattle.script_reader.specs.Files.{words_behind, numbered, listed, gather}
 use Rattle.script_laws.specs.Writable.{AreInOrder, variables_of}

@@ -2,7 +2,7 @@
 use Rattle.std.proofs.Common.{◌≡◌, ◌⊎◌, inl, inr, ◌++◌, ℕ, ◌+◌, ◌<◌, Bool, true, false, cond, List, [], ◌∷◌, length, refl, sym, ap, ◌∙◌, subst, Option, Some, None}
 use Rattle.std.specs.Prelude.{is_some}
 use Rattle.std.specs.Option.{option_or}
-use Rattle.script_reader.specs.Words.{Word, is_same}
+use Rattle.script_words.specs.Words.{Word, is_same}
 use Rattle.script_reader.specs.Names.{Table, number_in, noted}
 use Rattle.script_reader.specs.Files.{listed}
 use Rattle.script_laws.specs.Writable.{AreInOrder}

@@ -8,11 +8,11 @@ use Rattle.unix_calls.specs.declared.Script.{Script}
 use Rattle.unix_calls.specs.declared.Start.{Start}
 use Rattle.unix_calls.specs.Valid.{IsStatement, IsScript, IsValid}
 use Rattle.unix_calls.specs.Work.{works}
-use Rattle.script_reader.specs.declared.faults.Kind.{Kind}
-use Rattle.script_reader.specs.declared.faults.Fault.{Fault}
+use Rattle.script_words.specs.declared.faults.Kind.{Kind}
+use Rattle.script_words.specs.declared.faults.Fault.{Fault}
 use Rattle.script_reader.specs.declared.names.Names.{Names}
 use Rattle.script_reader.specs.declared.places.Place.{Place}
-use Rattle.script_reader.specs.Words.{word_at}
+use Rattle.script_words.specs.Words.{word_at}
 use Rattle.script_reader.specs.Lines.{read_line, place_after}
 use Rattle.script_reader.specs.Files.{begins_with, words_behind, gather, Told, first_place, tells, place_behind, body, scripts_of, judged, end_kind, silent_kind, ended_world, whole_world, fault_at, told_part, read_part}
 use Rattle.script_laws.specs.Worlds.{ReadIsValid}

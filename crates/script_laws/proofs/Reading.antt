@@ -9,15 +9,15 @@ use Rattle.unix_names.specs.declared.Signal.{Signal}
 use Rattle.unix_names.specs.declared.Signal.TheVariants.{Hup}
 use Rattle.unix_names.specs.declared.Act.{Act}
 use Rattle.unix_names.specs.declared.Act.TheVariants.{Default, Ignore, Catch}
-use Rattle.unix_names.specs.Signals.{number_of, word_of}
+use Rattle.unix_names.specs.Signals.{number_of, word_of, signal_named}
 use Rattle.unix_names.specs.Sets.{added}
-use Rattle.unix_names.proofs.SignalLaws.{signal_of-number_of}
+use Rattle.unix_names.proofs.SignalLaws.{signal_of-number_of, signal_named-word_of}
 use Rattle.unix_calls.specs.declared.Arg.{Arg}
 use Rattle.unix_calls.specs.declared.Arg.TheVariants.{Zero, One, Nobody, Own, Maker, Var}
-use Rattle.script_reader.specs.Words.{Word, Row, ◌>>=◌, is_same, word_at, is_digit, is_lower, has_name_form, reserved, is_reserved, name, is_number, number, begins_with_digit, signal_named, signal_number, signal, is_minus_digits}
+use Rattle.script_words.specs.Words.{Word, Row, ◌>>=◌, is_same, word_at, is_digit, is_lower, has_name_form, reserved, is_reserved, name, is_number, number, begins_with_digit, signal_number, signal, is_minus_digits, ended, node}
 use Rattle.script_reader.specs.Names.{Table, number_in}
-use Rattle.script_reader.specs.Statements.{ended, node, own_variable, variable, group, process, target, wanted_group, selector, changes, act, signals}
-use Rattle.script_reader.proofs.Numbers.{is_number-decides}
+use Rattle.script_reader.specs.Statements.{own_variable, variable, group, process, target, wanted_group, selector, changes, act, signals}
+use Rattle.script_words.proofs.Numbers.{is_number-decides}
 use Rattle.list_laws.proofs.Filters.{and_false}
 use Rattle.script_laws.specs.Writable.{IsTarget}
 use Rattle.script_laws.specs.Grammar.{change_words, act_word, IsName, Naming, IsCalled, IsFor, IsArg, Targets, Wants, Selects, IsForSignal, IsForSignalNumber, AreForSet}
@@ -89,9 +89,9 @@ number_first (b ∷ bs) n f = go ((is_number-decides (b ∷ bs)).1 f.0)
 
 -- ---- signals
 signal_word : (s : Signal) → (begins_with_digit (word_of s) ≡ false) × (signal_named (word_of s) ≡ Some s)
-unfolding begins_with_digit signal_named is_same
-signal_word Hup = (refl, refl)
-signal_word _ = (refl, refl)
+unfolding begins_with_digit
+signal_word Hup = (refl, signal_named-word_of Hup)
+signal_word _ = (refl, signal_named-word_of _)
 
 pub signal_number_read : (word : Word) (n : ℕ) → IsForSignalNumber word n → signal_number word ≡ Ok n
 unfolding signal_number

@@ -1,10 +1,9 @@
 -- facts of what is read, where it is read without a fault
 use Rattle.std.proofs.Common.{◌≡◌, ℕ, Bool, true, false, cond, refl, subst, Option, Some, None, Result, Ok, Err}
 use Rattle.std.specs.Prelude.{nat_le, length}
-use Rattle.script_reader.specs.declared.faults.Kind.{Kind}
-use Rattle.script_reader.specs.declared.faults.Kind.TheVariants.{UnknownWord}
-use Rattle.script_reader.specs.Words.{Row, ◌>>=◌, found}
-use Rattle.script_reader.specs.Statements.{ended}
+use Rattle.script_words.specs.declared.faults.Kind.{Kind}
+use Rattle.script_words.specs.declared.faults.Kind.TheVariants.{UnknownWord}
+use Rattle.script_words.specs.Words.{Row, ◌>>=◌, found, ended}
 
 -- what is read without a fault is as P says
 pub record Gives {A : Type 0} (r : Result A Kind) (P : A → Type 0) : Type 0 where

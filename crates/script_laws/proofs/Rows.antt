@@ -11,7 +11,7 @@ use Rattle.unix_calls.specs.declared.Start.{Start}
 use Rattle.unix_calls.specs.declared.Statement.{Statement}
 use Rattle.unix_calls.specs.declared.World.{World}
 use Rattle.unix_calls.specs.Valid.{IsStatement}
-use Rattle.script_reader.specs.Words.{Word, Row}
+use Rattle.script_words.specs.Words.{Word, Row}
 use Rattle.script_writer.specs.Written.{script_name, variable_name, statement_words, scripts_rows, uid_words, with_words, joined_words, start_row, file_rows}
 use Rattle.script_laws.specs.Writable.{IsWrittenStatement, IsWritable}
 use Rattle.script_laws.specs.Grammar.{Naming, IsUser, Joins, SpellsStart, Lines, Part, ends, starts, begins, says, closes, opens}

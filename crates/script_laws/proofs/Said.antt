@@ -7,14 +7,14 @@ use Rattle.unix_calls.specs.declared.Arg.{Arg}
 use Rattle.unix_calls.specs.declared.Arg.TheVariants.{Zero, One, Nobody, Own, Maker, Var}
 use Rattle.unix_calls.specs.declared.Statement.{Statement}
 use Rattle.unix_calls.specs.declared.Statement.TheVariants as statement
-use Rattle.script_reader.specs.declared.faults.Kind.TheVariants.{UnknownScript, LaterScript}
+use Rattle.script_words.specs.declared.faults.Kind.TheVariants.{UnknownScript, LaterScript}
 use Rattle.script_reader.specs.declared.names.Names.{Names}
 use Rattle.script_reader.specs.declared.places.Place.{Place}
 use Rattle.script_reader.specs.declared.statements.Verb.{Verb}
 use Rattle.script_reader.specs.declared.statements.Verb.TheVariants as verb
-use Rattle.script_reader.specs.Words.{Word, Row, found, word_at, name, number, signal_number}
+use Rattle.script_words.specs.Words.{Word, Row, found, word_at, name, number, signal_number, node}
 use Rattle.script_reader.specs.Names.{number_in}
-use Rattle.script_reader.specs.Statements.{text_of, node, own_variable, script, earlier_script, process, target, wanted_group, selector, changes, act, signals, site, fork_statement, wait_statement, kill_statement, setpgid_statement, action_statement, mask_statement, migrate_statement, exec_statement, exit_statement, getpgid_statement, getsid_statement, statement_of}
+use Rattle.script_reader.specs.Statements.{text_of, own_variable, script, earlier_script, process, target, wanted_group, selector, changes, act, signals, site, fork_statement, wait_statement, kill_statement, setpgid_statement, action_statement, mask_statement, migrate_statement, exec_statement, exit_statement, getpgid_statement, getsid_statement, statement_of}
 use Rattle.script_laws.specs.Grammar.{wait_word, change_words, act_word, IsName, Naming, IsCalled, IsFor, IsArg, Targets, Wants, Selects, IsForSignalNumber, AreForSet, IsSite, Spells}
 use Rattle.script_laws.proofs.Results.{Gives, next, choice, gives, fails, found_there, weaker, anything}
 use Rattle.script_laws.proofs.Understood.{number_understood, node_understood, signal_number_understood, set_understood, own_understood, process_understood, target_understood, wanted_understood, selector_understood, act_understood, TargetsAs, WantsAs, SelectsAs}

@@ -10,7 +10,7 @@ use Rattle.script_reader.specs.declared.names.Names.{Names}
 use Rattle.script_reader.specs.declared.places.Place.{Place}
 use Rattle.script_reader.specs.declared.lines.Item.{Item}
 use Rattle.script_reader.specs.declared.lines.Item.TheVariants as item
-use Rattle.script_reader.specs.Words.{Row}
+use Rattle.script_words.specs.Words.{Row}
 use Rattle.script_reader.specs.Lines.{place_after}
 use Rattle.script_reader.specs.Statements.{text_of}
 use Rattle.script_reader.specs.Files.{begins_with, Told, place_behind, said, with_said, body, scripts_of}

@@ -14,9 +14,9 @@ use Rattle.script_reader.specs.declared.names.Names.{Names}
 use Rattle.script_reader.specs.declared.places.Place.{Place}
 use Rattle.script_reader.specs.declared.lines.Head.TheVariants as head
 use Rattle.script_reader.specs.declared.lines.Item.TheVariants as item
-use Rattle.script_reader.specs.Words.{Word, Row, word_at}
-use Rattle.script_reader.specs.Lines.{is_skipped, is_numbered, script_line, end_line, statement_line, start_line, later_line, read_row, place_after, placed_after}
-use Rattle.script_reader.specs.Statements.{ended, text_of}
+use Rattle.script_words.specs.Words.{Word, Row, word_at, is_skipped, ended}
+use Rattle.script_reader.specs.Lines.{is_numbered, script_line, end_line, statement_line, start_line, later_line, read_row, place_after, placed_after}
+use Rattle.script_reader.specs.Statements.{text_of}
 use Rattle.script_reader.specs.Files.{Told, place_behind, body, scripts_of, start_of, with_start, is_little, judged}
 use Rattle.list_laws.proofs.Finding.{same_number}
 use Rattle.script_laws.specs.Grammar.{Naming, IsCalled, Spells, SpellsStart, Lines, ends, skips, starts, begins, says, closes}

@@ -5,9 +5,9 @@ use Rattle.std.proofs.lemmas.Bool.{leb-true}
 use Rattle.unix_names.specs.declared.Signal.{Signal}
 use Rattle.unix_names.specs.declared.Signal.TheVariants.{Hup}
 use Rattle.unix_names.specs.Signals.{word_of}
-use Rattle.script_reader.specs.declared.faults.Kind.TheVariants.{UnknownWord}
-use Rattle.script_reader.specs.Words.{Word, Row, is_same, word_at}
-use Rattle.script_reader.specs.Statements.{ended, node, changes, site}
+use Rattle.script_words.specs.declared.faults.Kind.TheVariants.{UnknownWord}
+use Rattle.script_words.specs.Words.{Word, Row, is_same, word_at, ended, node}
+use Rattle.script_reader.specs.Statements.{changes, site}
 use Rattle.script_laws.specs.Grammar.{change_words, IsName, IsFor, IsForSignalNumber, IsSite}
 use Rattle.script_laws.proofs.Results.{Gives, next, choice, gives, fails}
 use Rattle.script_laws.proofs.Words.{same_words}

@@ -14,7 +14,7 @@ use Rattle.text_laws.specs.Plain.{is_visible, is_plain, are_plain}
 use Rattle.text_laws.proofs.Words.{words-spaced, line-spaced}
 use Rattle.text_laws.proofs.Lines.{IsLine, AreLines, lines-written}
 use Rattle.text_laws.proofs.Numbers.{IsNumber-decimal}
-use Rattle.script_reader.specs.Words.{Word, Row, is_digit}
+use Rattle.script_words.specs.Words.{Word, Row, is_digit}
 use Rattle.script_writer.specs.Written.{spaced, spelled, line_text}
 use Rattle.script_laws.proofs.Chosen.{all_digits}
 

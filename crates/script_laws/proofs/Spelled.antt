@@ -14,7 +14,7 @@ use Rattle.unix_calls.specs.declared.Statement.{Statement}
 use Rattle.unix_calls.specs.declared.Statement.TheVariants as statement
 use Rattle.unix_calls.specs.declared.World.{World}
 use Rattle.unix_calls.specs.Valid.{IsNode, IsArgument, IsStatement, IsValid}
-use Rattle.script_reader.specs.Words.{Word, Row}
+use Rattle.script_words.specs.Words.{Word, Row}
 use Rattle.script_writer.specs.Written.{script_name, variable_name, arg_word, target_word, selector_word, change_words, signal_or_number, act_word, site_words, wait_word, set_words, statement_words}
 use Rattle.script_laws.specs.Writable.{IsTarget, IsWanted, IsSelector, IsWrittenStatement}
 use Rattle.script_laws.specs.Grammar.{Naming, IsCalled, IsFor, IsArg, Targets, Wants, Selects, IsForSignalNumber, IsSite, IsUser, Joins, Spells, SpellsStart, Lines, Part, ends, skips, starts, begins, says, closes, opens}

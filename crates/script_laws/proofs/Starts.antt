@@ -10,13 +10,13 @@ use Rattle.unix_calls.specs.declared.Start.{Start}
 use Rattle.unix_calls.specs.declared.Work.{Work}
 use Rattle.unix_calls.specs.Valid.{EachAt, IsStart, IsLittleWork}
 use Rattle.unix_calls.specs.Work.{total_work}
-use Rattle.script_reader.specs.declared.faults.Kind.{Kind}
-use Rattle.script_reader.specs.declared.faults.Kind.TheVariants.{UnknownWord, UnknownScript, DoubleName}
+use Rattle.script_words.specs.declared.faults.Kind.{Kind}
+use Rattle.script_words.specs.declared.faults.Kind.TheVariants.{UnknownWord, UnknownScript, DoubleName}
 use Rattle.script_reader.specs.declared.names.Names.{Names}
 use Rattle.script_reader.specs.declared.places.Place.{Place}
 use Rattle.script_reader.specs.declared.lines.Item.{Item}
 use Rattle.script_reader.specs.declared.lines.StartLine.{StartLine}
-use Rattle.script_reader.specs.Words.{Word, Row, found, is_same, word_at, name, number}
+use Rattle.script_words.specs.Words.{Word, Row, found, is_same, word_at, name, number}
 use Rattle.script_reader.specs.Names.{Table, number_in}
 use Rattle.script_reader.specs.Statements.{script}
 use Rattle.script_reader.specs.Lines.{is_numbered, start_variable, user, earlier_start, joined, place_after}

@@ -5,7 +5,7 @@ use Rattle.std.specs.List.{list_all}
 use Rattle.std.specs.Str.Parse.{digits_value}
 use Rattle.std.proofs.lemmas.Bool.{ltb-true, and_parts}
 use Rattle.unix_names.specs.declared.NodeId.{NodeId}
-use Rattle.unix_names.specs.Signals.{number_of}
+use Rattle.unix_names.specs.Signals.{number_of, signal_named}
 use Rattle.unix_names.specs.Sets.{IsSignals, added}
 use Rattle.unix_names.proofs.SetLaws.{number_small, IsSignals-none, IsSignals-added}
 use Rattle.unix_calls.specs.declared.World.{World}
@@ -14,15 +14,15 @@ use Rattle.unix_calls.specs.declared.world.Arg.TheVariants.{Zero, One, Nobody, O
 use Rattle.unix_calls.specs.declared.world.Statement.{Statement}
 use Rattle.unix_calls.specs.declared.world.Statement.TheVariants as statement
 use Rattle.unix_calls.specs.Valid.{IsNode, IsArgument, IsStatement}
-use Rattle.script_reader.specs.declared.faults.Kind.{Kind}
-use Rattle.script_reader.specs.declared.faults.Kind.TheVariants.{UnknownWord, BadNumber, NoSuchNode, LaterScript}
+use Rattle.script_words.specs.declared.faults.Kind.{Kind}
+use Rattle.script_words.specs.declared.faults.Kind.TheVariants.{UnknownWord, BadNumber, NoSuchNode, LaterScript}
 use Rattle.script_reader.specs.declared.statements.Verb.{Verb}
 use Rattle.script_reader.specs.declared.statements.Verb.TheVariants as verb
 use Rattle.script_reader.specs.declared.names.Names.{Names}
 use Rattle.script_reader.specs.declared.places.Place.{Place}
-use Rattle.script_reader.specs.Words.{Word, Row, ◌>>=◌, found, is_same, word_at, name, number, is_number, is_digit, begins_with_digit, signal_number, signal_named, signal, is_minus_digits}
+use Rattle.script_words.specs.Words.{Word, Row, ◌>>=◌, found, is_same, word_at, name, number, is_number, is_digit, begins_with_digit, signal_number, signal, is_minus_digits, node}
 use Rattle.script_reader.specs.Names.{Table, number_in}
-use Rattle.script_reader.specs.Statements.{node, own_variable, script, earlier_script, variable, group, process, target, wanted_group, selector, changes, act, signals, site, fork_statement, wait_statement, kill_statement, setpgid_statement, action_statement, mask_statement, migrate_statement, exec_statement, exit_statement, getpgid_statement, getsid_statement, statement_of}
+use Rattle.script_reader.specs.Statements.{own_variable, script, earlier_script, variable, group, process, target, wanted_group, selector, changes, act, signals, site, fork_statement, wait_statement, kill_statement, setpgid_statement, action_statement, mask_statement, migrate_statement, exec_statement, exit_statement, getpgid_statement, getsid_statement, statement_of}
 use Rattle.script_laws.specs.Writable.{IsTarget, IsWanted, IsSelector, IsWrittenStatement}
 use Rattle.script_laws.proofs.Results.{Gives, next, choice, gives, fails, ended_here, found_there, weaker, anything}
 

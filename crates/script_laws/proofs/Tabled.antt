@@ -9,7 +9,7 @@ use Rattle.script_reader.specs.declared.places.Place.{Place}
 use Rattle.script_reader.specs.declared.statements.Verb.{Verb}
 use Rattle.script_reader.specs.declared.statements.Verb.TheVariants as verb
 use Rattle.script_reader.specs.declared.lines.Item.{Item}
-use Rattle.script_reader.specs.Words.{Word, Row, word_at, name}
+use Rattle.script_words.specs.Words.{Word, Row, word_at, name}
 use Rattle.script_reader.specs.Names.{Table, number_in, noted}
 use Rattle.script_reader.specs.Statements.{text_of, own_variable, fork_statement, statement_of}
 use Rattle.script_reader.specs.Lines.{place_after, start_variable}

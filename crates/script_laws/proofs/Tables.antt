@@ -3,7 +3,7 @@ use Rattle.std.proofs.Common.{◌≡◌, ◌⊎◌, inl, inr, ◌++◌, ℕ, ◌
 use Rattle.std.specs.Prelude.{is_some, codes}
 use Rattle.std.specs.Map.{lookup}
 use Rattle.std.specs.Option.{option_or}
-use Rattle.script_reader.specs.Words.{Word, Row, is_same}
+use Rattle.script_words.specs.Words.{Word, Row, is_same}
 use Rattle.script_reader.specs.Names.{Table, number_in, noted}
 use Rattle.script_reader.specs.Files.{words_behind, numbered, listed, gather}
 use Rattle.script_laws.proofs.Words.{same_words}

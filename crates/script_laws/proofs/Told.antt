@@ -16,7 +16,7 @@ use Rattle.script_reader.specs.declared.names.Names.{Names}
 use Rattle.script_reader.specs.declared.places.Place.{Place}
 use Rattle.script_reader.specs.declared.lines.Item.{Item}
 use Rattle.script_reader.specs.declared.lines.Item.TheVariants as item
-use Rattle.script_reader.specs.Words.{Word, Row}
+use Rattle.script_words.specs.Words.{Word, Row}
 use Rattle.script_reader.specs.Lines.{read_row, read_line, place_after}
 use Rattle.script_reader.specs.Files.{begins_with, Told, tells, place_behind, said, with_said, body, scripts_of, is_little, judged}
 use Rattle.script_laws.specs.Grammar.{Naming, IsCalled}

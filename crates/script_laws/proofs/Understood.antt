@@ -7,17 +7,17 @@ use Rattle.std.proofs.lemmas.Bool.{leb-true, and_parts, eqb-true, or_parts}
 use Rattle.std.proofs.lemmas.List.Elements.{All-nil, All-cons}
 use Rattle.unix_names.specs.declared.Signal.{Signal}
 use Rattle.unix_names.specs.declared.Act.TheVariants.{Default, Ignore, Catch}
-use Rattle.unix_names.specs.Signals.{number_of, word_of, all_signals, signal_of}
+use Rattle.unix_names.specs.Signals.{number_of, word_of, all_signals, signal_of, signal_named}
 use Rattle.unix_names.specs.Sets.{added}
-use Rattle.unix_names.proofs.SignalLaws.{find-passes, number_of-signal_of}
+use Rattle.unix_names.proofs.SignalLaws.{find-passes, number_of-signal_of, word_of-signal_named}
 use Rattle.unix_calls.specs.declared.Arg.{Arg}
 use Rattle.unix_calls.specs.declared.Arg.TheVariants.{Zero, One, Nobody, Own, Maker, Var}
-use Rattle.script_reader.specs.declared.faults.Kind.{Kind}
-use Rattle.script_reader.specs.declared.faults.Kind.TheVariants.{UnknownWord, BadNumber, LongName, NoSuchNode}
-use Rattle.script_reader.specs.Words.{Word, Row, ◌>>=◌, found, is_same, is_lower, is_name_byte, has_name_form, reserved, is_reserved, name, is_number, number, begins_with_digit, signal_named, signal_number, signal, is_minus_digits}
+use Rattle.script_words.specs.declared.faults.Kind.{Kind}
+use Rattle.script_words.specs.declared.faults.Kind.TheVariants.{UnknownWord, BadNumber, LongName, NoSuchNode}
+use Rattle.script_words.specs.Words.{Word, Row, ◌>>=◌, found, is_same, is_lower, is_name_byte, has_name_form, reserved, is_reserved, name, is_number, number, begins_with_digit, signal_number, signal, is_minus_digits, node}
 use Rattle.script_reader.specs.Names.{Table, number_in}
-use Rattle.script_reader.specs.Statements.{node, own_variable, variable, group, process, target, wanted_group, selector, act, signals}
-use Rattle.script_reader.proofs.Numbers.{is_number-decides}
+use Rattle.script_reader.specs.Statements.{own_variable, variable, group, process, target, wanted_group, selector, act, signals}
+use Rattle.script_words.proofs.Numbers.{is_number-decides}
 use Rattle.script_laws.specs.Writable.{IsTarget}
 use Rattle.script_laws.specs.Grammar.{act_word, IsName, Naming, IsCalled, IsFor, IsArg, Targets, Wants, Selects, IsForSignal, IsForSignalNumber, AreForSet}
 use Rattle.script_laws.proofs.Results.{Gives, next, choice, gives, fails, found_there, weaker, anything, then_ok}
@@ -68,8 +68,7 @@ node_understood nodes word = next (number word) _ (IsFor word) (IsFor word) (num
 
 -- ---- signals
 named_word : (word : Word) (s : Signal) → signal_named word ≡ Some s → word ≡ word_of s
-unfolding signal_named
-named_word word s e = same_words word (word_of s) (find-passes (λ s. is_same word (word_of s)) all_signals s e)
+named_word word s e = sym (word_of-signal_named word s e)
 
 pub signal_number_understood : (word : Word) → Gives (signal_number word) (IsForSignalNumber word)
 unfolding signal_number

@@ -3,16 +3,16 @@ use Rattle.std.proofs.Common.{◌≡◌, ℕ, Bool, true, false, drop, refl, sym
 use Rattle.std.specs.Prelude.{codes}
 use Rattle.unix_calls.specs.declared.world.Statement.{Statement}
 use Rattle.unix_calls.specs.declared.world.Statement.TheVariants as statement
-use Rattle.script_reader.specs.declared.faults.Kind.TheVariants.{UnknownWord}
+use Rattle.script_words.specs.declared.faults.Kind.TheVariants.{UnknownWord}
 use Rattle.script_reader.specs.declared.names.Names.{Names}
 use Rattle.script_reader.specs.declared.places.Place.{Place}
 use Rattle.script_reader.specs.declared.statements.Verb.{Verb}
 use Rattle.script_reader.specs.declared.statements.Verb.TheVariants as verb
 use Rattle.script_reader.specs.declared.lines.Item.{Item}
 use Rattle.script_reader.specs.declared.lines.Item.TheVariants as item
-use Rattle.script_reader.specs.Words.{Word, Row, is_same, word_at, name, number, signal_number}
+use Rattle.script_words.specs.Words.{Word, Row, is_same, word_at, name, number, signal_number, node}
 use Rattle.script_reader.specs.Names.{Table, number_in}
-use Rattle.script_reader.specs.Statements.{text_of, node, own_variable, process, target, wanted_group, selector, changes, act, signals, earlier_script, site, fork_statement, wait_statement, kill_statement, setpgid_statement, action_statement, mask_statement, migrate_statement, exec_statement, exit_statement, getpgid_statement, getsid_statement, statement_of}
+use Rattle.script_reader.specs.Statements.{text_of, own_variable, process, target, wanted_group, selector, changes, act, signals, earlier_script, site, fork_statement, wait_statement, kill_statement, setpgid_statement, action_statement, mask_statement, migrate_statement, exec_statement, exit_statement, getpgid_statement, getsid_statement, statement_of}
 use Rattle.script_reader.specs.Files.{begins_with}
 use Rattle.script_laws.specs.Writable.{assigned}
 use Rattle.script_laws.proofs.Results.{Gives, next, gives, ended_here, anything, next_ok, found_ok}

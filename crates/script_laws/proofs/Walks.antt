@@ -5,14 +5,14 @@ use Rattle.byte_ends.specs.Text.{words}
 use Rattle.unix_calls.specs.declared.Start.{Start}
 use Rattle.unix_calls.specs.declared.Work.{Work}
 use Rattle.unix_calls.specs.Work.{total_work}
-use Rattle.script_reader.specs.declared.faults.Kind.{Kind}
-use Rattle.script_reader.specs.declared.faults.Kind.TheVariants.{NotUtf8, TooMuchWork}
-use Rattle.script_reader.specs.declared.faults.Fault.{Fault}
+use Rattle.script_words.specs.declared.faults.Kind.{Kind}
+use Rattle.script_words.specs.declared.faults.Kind.TheVariants.{NotUtf8, TooMuchWork}
+use Rattle.script_words.specs.declared.faults.Fault.{Fault}
 use Rattle.script_reader.specs.declared.names.Names.{Names}
 use Rattle.script_reader.specs.declared.places.Place.{Place}
 use Rattle.script_reader.specs.declared.lines.Item.{Item}
 use Rattle.script_reader.specs.declared.lines.Item.TheVariants as item
-use Rattle.script_reader.specs.Words.{Row}
+use Rattle.script_words.specs.Words.{Row}
 use Rattle.script_reader.specs.Lines.{read_row, read_line, place_after}
 use Rattle.script_reader.specs.Files.{Told, tells, place_behind, with_start, is_little, fault_at, judged}
 use Rattle.script_laws.proofs.Results.{then_ok}

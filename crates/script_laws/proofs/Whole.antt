@@ -11,9 +11,8 @@ use Rattle.script_reader.specs.declared.names.Names.{Names}
 use Rattle.script_reader.specs.declared.places.Place.{Place}
 use Rattle.script_reader.specs.declared.lines.Head.TheVariants as head
 use Rattle.script_reader.specs.declared.lines.Item.TheVariants as item
-use Rattle.script_reader.specs.Words.{Word, Row, word_at, is_same}
-use Rattle.script_reader.specs.Lines.{is_skipped, cluster_line, read_row, place_after, placed_after}
-use Rattle.script_reader.specs.Statements.{ended}
+use Rattle.script_words.specs.Words.{Word, Row, word_at, is_same, is_skipped, ended}
+use Rattle.script_reader.specs.Lines.{cluster_line, read_row, place_after, placed_after}
 use Rattle.script_reader.specs.Files.{Told, tells, first_place, place_behind, scripts_of, judged, gather, end_kind, told_part, read_part}
 use Rattle.script_laws.specs.Grammar.{Naming, IsCalled, IsFor, Part, silent, opens, IsFile}
 use Rattle.script_laws.specs.Worlds.{FileIsRead}

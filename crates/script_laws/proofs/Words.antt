@@ -8,9 +8,9 @@ use Rattle.script_reader.specs.declared.statements.Verb.{Verb}
 use Rattle.script_reader.specs.declared.statements.Verb.TheVariants as verb
 use Rattle.script_reader.specs.declared.lines.Head.{Head}
 use Rattle.script_reader.specs.declared.lines.Head.TheVariants as head
-use Rattle.script_reader.specs.Words.{Word, Row, is_same, word_at}
+use Rattle.script_words.specs.Words.{Word, Row, is_same, word_at, is_skipped}
 use Rattle.script_reader.specs.Statements.{text_of, all_verbs, verb_named}
-use Rattle.script_reader.specs.Lines.{is_skipped, head_of}
+use Rattle.script_reader.specs.Lines.{head_of}
 use Rattle.script_reader.specs.Files.{begins_with}
 
 pub same_words : (a b : Word) → is_same a b ≡ true → a ≡ b

@@ -18,8 +18,7 @@ use Rattle.unix_calls.specs.declared.Statement.{Statement}
 use Rattle.unix_calls.specs.declared.Statement.TheVariants as statement
 use Rattle.unix_calls.specs.declared.World.{World}
 use Rattle.unix_calls.specs.Valid.{IsValid}
-use Rattle.script_reader.specs.Words.{Word, Row, is_lower, is_name_byte, reserved}
-use Rattle.script_reader.specs.Lines.{is_skipped}
+use Rattle.script_words.specs.Words.{Word, Row, is_lower, is_name_byte, reserved, is_skipped}
 use Rattle.script_laws.specs.Writable.{IsTarget, AreInOrder, variables_of}
 
 -- 1 to 16 bytes, a lower-case letter and then lower-case letters and digits, and no word with a meaning of its own

@@ -3,7 +3,7 @@ use Rattle.std.specs.Prelude.{◌≡◌, ◌⊎◌, ℕ, ◌+◌, ◌<◌, ◌�
 use Rattle.byte_ends.specs.Text.{lines, words}
 use Rattle.unix_calls.specs.declared.World.{World}
 use Rattle.unix_calls.specs.Valid.{IsValid}
-use Rattle.script_reader.specs.declared.faults.Fault.{Fault}
+use Rattle.script_words.specs.declared.faults.Fault.{Fault}
 use Rattle.script_reader.specs.Files.{Told, gather, tells, first_place, read_part}
 use Rattle.script_writer.specs.Written.{file_text}
 use Rattle.script_laws.specs.Grammar.{IsFile}

@@ -3,8 +3,8 @@ use Rattle.std.proofs.Common.{◌≡◌, ℕ, ◌+◌, ◌<◌, ◌≤◌, ◌==
 use Rattle.std.proofs.lemmas.Bool.Decides.{nat_tests}
 use Rattle.std.specs.Str.{is_utf8}
 use Rattle.byte_ends.specs.Text.{words}
-use Rattle.script_reader.specs.declared.faults.Kind.{Kind}
-use Rattle.script_reader.specs.declared.faults.Kind.TheVariants.{NotUtf8, NoClusterLine, UnknownWord, NoSuchNode, TooManyNodes, TooManyScripts, TooManyStatements, TooManyStarts, DoubleName}
+use Rattle.script_words.specs.declared.faults.Kind.{Kind}
+use Rattle.script_words.specs.declared.faults.Kind.TheVariants.{NotUtf8, NoClusterLine, UnknownWord, NoSuchNode, TooManyNodes, TooManyScripts, TooManyStatements, TooManyStarts, DoubleName}
 use Rattle.script_reader.specs.declared.names.Names.{Names}
 use Rattle.script_reader.specs.declared.places.Place.{Place}
 use Rattle.script_reader.specs.declared.statements.Verb.{Verb}
@@ -15,9 +15,9 @@ use Rattle.script_reader.specs.declared.lines.Item.TheVariants as item
 use Rattle.script_reader.specs.declared.lines.StartLine.{StartLine}
 use Rattle.unix_calls.specs.declared.Statement.{Statement}
 use Rattle.script_reader.specs.Starts.{HasNode}
-use Rattle.script_reader.specs.Words.{Word, Row, ◌>>=◌, is_same, word_at, name, number}
-use Rattle.script_reader.specs.Statements.{ended, node, script, statement_of}
-use Rattle.script_reader.specs.Lines.{is_skipped, is_numbered, head_of, start_variable, user, joined, cluster_line, script_line, end_line, statement_line, start_words, start_line, later_line, read_row, read_line, nodes_after, placed_after, place_after}
+use Rattle.script_words.specs.Words.{Word, Row, ◌>>=◌, is_same, word_at, name, number, ended, node, is_skipped}
+use Rattle.script_reader.specs.Statements.{script, statement_of}
+use Rattle.script_reader.specs.Lines.{is_numbered, head_of, start_variable, user, joined, cluster_line, script_line, end_line, statement_line, start_words, start_line, later_line, read_row, read_line, nodes_after, placed_after, place_after}
 
 -- what a line says of nodes: at most 64 of them, and starts on one of so many
 pub record IsFine (nodes : ℕ) (read : Result Item Kind) : Type 0 where

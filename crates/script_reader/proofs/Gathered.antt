@@ -3,7 +3,7 @@ use Rattle.std.proofs.Common.{◌≡◌, ℕ, ◌+◌, ◌<◌, ◌≤◌, true,
 use Rattle.std.proofs.lemmas.List.{at_drop_more, at_drop_all, map-append, append-nil, take_more, drop_all}
 use Rattle.std.proofs.lemmas.List.Elements.{filter-append}
 use Rattle.byte_ends.specs.Text.{lines, words}
-use Rattle.script_reader.specs.Words.{Word, Row, word_at}
+use Rattle.script_words.specs.Words.{Word, Row, word_at}
 use Rattle.script_reader.specs.Names.{Table, noted}
 use Rattle.script_reader.specs.Files.{begins_with, words_behind, numbered, listed}
 

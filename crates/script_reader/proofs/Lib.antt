@@ -1,8 +1,6 @@
 mod Bounds
 mod Gathered
 mod NameLemmas
-pub mod Numbers
 mod SignalLemmas
 mod Steps
-mod Texts
 mod Wholes

@@ -3,7 +3,7 @@ use Rattle.std.proofs.Common.{◌≡◌, ℕ, Bool, true, false, cond, List, [],
 use Rattle.std.specs.Str.{bytes_eq}
 use Rattle.std.specs.Map.{lookup}
 use Rattle.indexmap.specs.IndexMap.{insert_entry}
-use Rattle.script_reader.specs.Words.{Word, is_same}
+use Rattle.script_words.specs.Words.{Word, is_same}
 use Rattle.script_reader.specs.Names.{Table, number_in}
 
 abbrev pub Entries : Type 0

@@ -3,8 +3,8 @@ use Rattle.std.proofs.Common.{◌≡◌, ℕ, ◌+◌, ◌<◌, ◌≤◌, List,
 use Rattle.std.proofs.lemmas.List.{at_drop_more, at_drop_all}
 use Rattle.unix_names.specs.declared.signals.Signal.{Signal}
 use Rattle.unix_names.specs.Sets.{added}
-use Rattle.script_reader.specs.declared.faults.Kind.{Kind}
-use Rattle.script_reader.specs.Words.{signal}
+use Rattle.script_words.specs.declared.faults.Kind.{Kind}
+use Rattle.script_words.specs.Words.{signal}
 use Rattle.script_reader.specs.Statements.{signals}
 
 rest : ℕ → List (Bor (List ℕ)) → Result ℕ Kind

@@ -9,16 +9,16 @@ use Rattle.unix_calls.specs.declared.Statement.{Statement}
 use Rattle.unix_calls.specs.declared.Work.{Work}
 use Rattle.unix_calls.specs.Work.{work, together, work_of, total_work}
 use Rattle.script_reader.specs.declared.bodies.Bodies.{Bodies}
-use Rattle.script_reader.specs.declared.faults.Fault.{Fault}
-use Rattle.script_reader.specs.declared.faults.Kind.{Kind}
-use Rattle.script_reader.specs.declared.faults.ReadRefusal.{ReadRefusal}
-use Rattle.script_reader.specs.declared.faults.Kind.TheVariants.{TooMuchWork}
+use Rattle.script_words.specs.declared.faults.Fault.{Fault}
+use Rattle.script_words.specs.declared.faults.Kind.{Kind}
+use Rattle.script_words.specs.declared.faults.ReadRefusal.{ReadRefusal}
+use Rattle.script_words.specs.declared.faults.Kind.TheVariants.{TooMuchWork}
 use Rattle.script_reader.specs.declared.names.Names.{Names}
 use Rattle.script_reader.specs.declared.places.Place.{Place}
 use Rattle.script_reader.specs.declared.lines.Item.{Item}
 use Rattle.script_reader.specs.declared.lines.Item.TheVariants as item
 use Rattle.script_reader.specs.declared.lines.StartLine.{StartLine}
-use Rattle.script_reader.specs.Words.{Row}
+use Rattle.script_words.specs.Words.{Row}
 use Rattle.script_reader.specs.Lines.{read_line, place_after}
 use Rattle.script_reader.specs.Files.{Told, begins_with, said, body, tells, place_behind, scripts_of, is_little, fault_at, start_of, with_start, judged}
 use Rattle.script_reader.specs.Starts.{started, HasNode}

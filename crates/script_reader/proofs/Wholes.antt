@@ -5,8 +5,8 @@ use Rattle.unix_calls.specs.declared.Script.{Script}
 use Rattle.unix_calls.specs.declared.Start.{Start}
 use Rattle.unix_calls.specs.declared.World.{World}
 use Rattle.unix_calls.specs.Work.{works}
-use Rattle.script_reader.specs.declared.faults.Fault.{Fault}
-use Rattle.script_reader.specs.declared.faults.Kind.{Kind}
+use Rattle.script_words.specs.declared.faults.Fault.{Fault}
+use Rattle.script_words.specs.declared.faults.Kind.{Kind}
 use Rattle.script_reader.specs.declared.names.Names.{Names}
 use Rattle.script_reader.specs.declared.places.Place.{Place}
 use Rattle.script_reader.specs.Files.{first_place, gather, tells, place_behind, scripts_of, judged, fault_at, end_kind, silent_kind, ended_world, whole_world, told_part, read_part}

@@ -9,15 +9,15 @@ use Rattle.unix_calls.specs.declared.Work.{Work}
 use Rattle.unix_calls.specs.declared.World.{World}
 use Rattle.unix_calls.specs.Valid.{start_pid}
 use Rattle.unix_calls.specs.Work.{works, total_work}
-use Rattle.script_reader.specs.declared.faults.Fault.{Fault}
-use Rattle.script_reader.specs.declared.faults.Kind.{Kind}
-use Rattle.script_reader.specs.declared.faults.Kind.TheVariants.{NotUtf8, NoClusterLine, UnknownWord, TooMuchWork, NoStart}
+use Rattle.script_words.specs.declared.faults.Fault.{Fault}
+use Rattle.script_words.specs.declared.faults.Kind.{Kind}
+use Rattle.script_words.specs.declared.faults.Kind.TheVariants.{NotUtf8, NoClusterLine, UnknownWord, TooMuchWork, NoStart}
 use Rattle.script_reader.specs.declared.names.Names.{Names}
 use Rattle.script_reader.specs.declared.places.Place.{Place}
 use Rattle.script_reader.specs.declared.lines.Item.{Item}
 use Rattle.script_reader.specs.declared.lines.Item.TheVariants as item
 use Rattle.script_reader.specs.declared.lines.StartLine.{StartLine}
-use Rattle.script_reader.specs.Words.{Word, Row, is_same, word_at}
+use Rattle.script_words.specs.Words.{Word, Row, is_same, word_at}
 use Rattle.script_reader.specs.Names.{Table, noted}
 use Rattle.script_reader.specs.Lines.{read_line, place_after}
 

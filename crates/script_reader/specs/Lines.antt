@@ -1,9 +1,9 @@
 -- lines of a file, each read where it stands
-use Rattle.std.specs.Prelude.{ℕ, ◌+◌, ◌==◌, Bool, true, false, ◌&&◌, nat_lt, nat_le, if◌then◌else◌, List, [], ◌∷◌, length, codes, Option, Some, None, Result, Ok, Err}
+use Rattle.std.specs.Prelude.{ℕ, ◌+◌, ◌==◌, Bool, true, false, ◌&&◌, nat_lt, nat_le, if◌then◌else◌, List, length, codes, Option, Some, None, Result, Ok, Err}
 use Rattle.std.specs.Str.{is_utf8}
 use Rattle.byte_ends.specs.Text.{words}
-use Rattle.script_reader.specs.declared.faults.Kind.{Kind}
-use Rattle.script_reader.specs.declared.faults.Kind.TheVariants.{NotUtf8, NoClusterLine, UnknownWord, TooManyNodes, TooManyScripts, TooManyStatements, TooManyStarts, DoubleName}
+use Rattle.script_words.specs.declared.faults.Kind.{Kind}
+use Rattle.script_words.specs.declared.faults.Kind.TheVariants.{NotUtf8, NoClusterLine, UnknownWord, TooManyNodes, TooManyScripts, TooManyStatements, TooManyStarts, DoubleName}
 use Rattle.script_reader.specs.declared.names.Names.{Names}
 use Rattle.script_reader.specs.declared.places.Place.{Place}
 use Rattle.script_reader.specs.declared.statements.Verb.{Verb}
@@ -11,18 +11,9 @@ use Rattle.script_reader.specs.declared.lines.Head.{Head}
 use Rattle.script_reader.specs.declared.lines.Head.TheVariants as head
 use Rattle.script_reader.specs.declared.lines.Item.{Item}
 use Rattle.script_reader.specs.declared.lines.Item.TheVariants as item
-use Rattle.script_reader.specs.Words.{Word, Row, ◌>>=◌, found, is_same, word_at, name, number}
+use Rattle.script_words.specs.Words.{Word, Row, ◌>>=◌, found, is_same, word_at, name, number, ended, node, is_skipped}
 use Rattle.script_reader.specs.Names.{Table, number_in}
-use Rattle.script_reader.specs.Statements.{ended, node, script, statement_of, verb_named}
-
-abbrev pub begins_with_hash : Word → Bool
-begins_with_hash [] = false
-begins_with_hash (b ∷ bs) = b == 35
-
--- a line without words, or one whose first word begins with `#`, says nothing
-unfoldable pub is_skipped : Row → Bool
-is_skipped [] = true
-is_skipped (word ∷ words) = begins_with_hash word
+use Rattle.script_reader.specs.Statements.{script, statement_of, verb_named}
 
 -- what a line begins with
 unfoldable pub head_of : Word → Head

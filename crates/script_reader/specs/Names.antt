@@ -1,7 +1,7 @@
 -- names of a file with their numbers
 use Rattle.std.specs.Prelude.{ℕ, if◌then◌else◌, List, [], ◌∷◌, ◌++◌, Option, is_some}
 use Rattle.std.specs.Map.{lookup}
-use Rattle.script_reader.specs.Words.{Word, is_same}
+use Rattle.script_words.specs.Words.{Word, is_same}
 
 -- words with their numbers, in the order of the file
 abbrev pub Table : Type 0

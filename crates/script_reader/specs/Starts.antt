@@ -1,6 +1,6 @@
 -- the start that a line says
 use Rattle.std.specs.Prelude.{◌<◌, Option, Some, None, Result, Ok, Err}
-use Rattle.script_reader.specs.declared.faults.Kind.{Kind}
+use Rattle.script_words.specs.declared.faults.Kind.{Kind}
 use Rattle.script_reader.specs.declared.lines.Item.{Item}
 use Rattle.script_reader.specs.declared.lines.Item.TheVariants as item
 use Rattle.script_reader.specs.declared.lines.StartLine.{StartLine}

@@ -8,22 +8,14 @@ use Rattle.unix_calls.specs.declared.world.Arg.{Arg}
 use Rattle.unix_calls.specs.declared.world.Arg.TheVariants.{Zero, One, Nobody, Own, Maker, Var}
 use Rattle.unix_calls.specs.declared.world.Statement.{Statement}
 use Rattle.unix_calls.specs.declared.world.Statement.TheVariants as statement
-use Rattle.script_reader.specs.declared.faults.Kind.{Kind}
-use Rattle.script_reader.specs.declared.faults.Kind.TheVariants.{UnknownWord, BadNumber, NoSuchNode, UnknownScript, LaterScript}
+use Rattle.script_words.specs.declared.faults.Kind.{Kind}
+use Rattle.script_words.specs.declared.faults.Kind.TheVariants.{UnknownWord, BadNumber, UnknownScript, LaterScript}
 use Rattle.script_reader.specs.declared.statements.Verb.{Verb}
 use Rattle.script_reader.specs.declared.statements.Verb.TheVariants as verb
 use Rattle.script_reader.specs.declared.names.Names.{Names}
 use Rattle.script_reader.specs.declared.places.Place.{Place}
-use Rattle.script_reader.specs.Words.{Word, Row, ◌>>=◌, found, is_same, word_at, name, number, signal_number, signal, is_minus_digits}
+use Rattle.script_words.specs.Words.{Word, Row, ◌>>=◌, found, is_same, word_at, name, number, signal_number, signal, is_minus_digits, ended, node}
 use Rattle.script_reader.specs.Names.{Table, number_in}
-
--- a value, where the line has no more words than these
-unfoldable pub ended : {A : Type 0} → Row → ℕ → A → Result A Kind
-ended row count value = if nat_le (length row) count then Ok value else Err UnknownWord
-
--- a word at the place of a node of the cluster
-unfoldable pub node : ℕ → Word → Result ℕ Kind
-node nodes word = number word >>= λ n. (if nat_lt n nodes then Ok n else Err NoSuchNode)
 
 -- a word at the place of a variable that is given a value
 unfoldable pub own_variable : Table → Word → Result ℕ Kind

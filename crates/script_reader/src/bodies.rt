@@ -4,9 +4,9 @@ ghost use Rattle.script_reader.specs.Bodies.{scripts_with};
 ghost use Rattle.script_reader.specs.Files.{Told, body, scripts_of};
 ghost use Rattle.script_reader.specs.Files as spec;
 
-use crate::faults::Kind;
 use crate::gather::begins_with;
 use crate::lines::Item;
+use script_words::Kind;
 use std::alloc::Global;
 use std::mem;
 use unix_calls::{Script, Statement};

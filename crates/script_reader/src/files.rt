@@ -3,18 +3,18 @@ ghost use Rattle.std.specs.Prelude.{◌≡◌, ◌+◌, ◌-◌, ◌^◌, ◌<�
 ghost use Rattle.byte_ends.specs.Text.{lines as lines_in, words as words_in};
 ghost use Rattle.unix_calls.specs.Work.{works, total_work};
 ghost use Rattle.unix_calls.specs.declared.Script.{Script};
-ghost use Rattle.script_reader.specs.declared.faults.Fault.{Fault};
+ghost use Rattle.script_words.specs.declared.faults.Fault.{Fault};
 ghost use Rattle.script_reader.specs.Files as spec;
 
 use crate::bodies::Bodies;
-use crate::faults::{Kind, ReadRefusal};
 use crate::gather::{gather, lines_of};
-use crate::lines::{is_utf8, place_after, read_line};
+use crate::lines::{place_after, read_line};
 use crate::names::Names;
 use crate::places::{FIRST_PLACE, Place};
 use crate::starts::{Starts, bad};
 use byte_ends::words_of;
 use file_parts::Span;
+use script_words::{Kind, ReadRefusal, is_utf8};
 use std::alloc::Global;
 use unix_calls::{Script, Start, Work, World, script_work};
 use unix_names::{NoMemory, Seq};

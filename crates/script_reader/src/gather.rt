@@ -4,8 +4,8 @@ ghost use Rattle.byte_ends.specs.Text.{lines as lines_in, words as words_in};
 ghost use Rattle.script_reader.specs.Files.{begins_with, words_behind, numbered, listed, gather as gathered};
 
 use crate::names::{Names, Numbers};
-use crate::words::{is_word, word_at};
 use byte_ends::{next_line, words_of};
+use script_words::{is_word, word_at};
 use std::alloc::Global;
 use unix_names::NoMemory;
 

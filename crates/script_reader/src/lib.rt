@@ -2,7 +2,6 @@
 #![tactic(auto)]
 
 mod bodies;
-mod faults;
 mod files;
 mod gather;
 mod lines;
@@ -12,7 +11,5 @@ mod starts;
 mod statements;
 #[cfg(test)]
 mod tests;
-mod words;
 
-pub use faults::{Fault, Kind, ReadRefusal};
 pub use files::read_file;

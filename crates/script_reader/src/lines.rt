@@ -1,14 +1,12 @@
 // What a line says where it stands.
 ghost use Rattle.std.specs.Prelude.{◌≡◌, ◌<◌, ◌≤◌, ◌^◌, map, codes, IfOk};
 ghost use Rattle.byte_ends.specs.Text.{words as words_in};
-ghost use Rattle.std.specs.Str.{is_utf8 as is_text};
 ghost use Rattle.script_reader.specs.Lines as spec;
 
-use crate::faults::Kind;
 use crate::names::{Names, Numbers};
 use crate::places::Place;
-use crate::statements::{Verb, ended, node, script, statement_of, verb_named};
-use crate::words::{is_word, name, number, word_at};
+use crate::statements::{Verb, script, statement_of, verb_named};
+use script_words::{Kind, ended, is_skipped, is_utf8, is_word, name, node, number, word_at};
 use unix_calls::Statement;
 
 const MOST_NODES: u32 = 64;
@@ -48,26 +46,6 @@ pub enum Item {
     ScriptEnds,
     Says(Statement),
     Starts(StartLine),
-}
-
-fn begins_with_hash(word: &[u8]) -> bool
-    ensures { result ≡ spec.begins_with_hash word.now }
-{
-    match word {
-        [] => false,
-        [first, ..] => *first == b'#',
-    }
-}
-
-/// Whether a line says nothing.
-#[tactic(auto, unfolding(crate::specs::Lines::is_skipped))]
-pub fn is_skipped(words: &[&[u8]]) -> bool
-    ensures { result ≡ spec.is_skipped (map (λ w. w.now) words.now) }
-{
-    match words {
-        [] => true,
-        [first, ..] => begins_with_hash(first),
-    }
 }
 
 #[tactic(auto, unfolding(crate::specs::Lines::head_of))]
@@ -286,13 +264,6 @@ fn read_row<'a>(names: &Names<'a>, place: &Place, words: &[&'a [u8]]) -> Result<
     } else {
         cluster_line(words)
     }
-}
-
-/// Whether a line is a text.
-pub fn is_utf8(line: &[u8]) -> bool
-    ensures { result ≡ is_text line.now }
-{
-    std::str::from_utf8(line).is_ok()
 }
 
 /// What a line says where it stands, given its words, or its first fault.

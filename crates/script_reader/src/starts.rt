@@ -1,15 +1,15 @@
 // The starts of a file, line by line.
 ghost use Rattle.std.specs.Prelude.{◌≡◌, ◌+◌, ◌^◌, ◌<◌, ◌≤◌, [], ◌∷◌, ◌++◌, true, false, List, Err, length, OnOk};
 ghost use Rattle.unix_calls.specs.Work.{total_work};
-ghost use Rattle.script_reader.specs.declared.faults.Fault.{Fault};
-ghost use Rattle.script_reader.specs.declared.faults.Kind.TheVariants.{TooMuchWork};
-ghost use Rattle.script_reader.specs.Words.{Row};
+ghost use Rattle.script_words.specs.declared.faults.Fault.{Fault};
+ghost use Rattle.script_words.specs.declared.faults.Kind.TheVariants.{TooMuchWork};
+ghost use Rattle.script_words.specs.Words.{Row};
 ghost use Rattle.script_reader.specs.Files.{Told, fault_at, with_start, judged};
 ghost use Rattle.script_reader.specs.Files as spec;
 ghost use Rattle.script_reader.specs.Starts.{HasNode, started as start_in};
 
-use crate::faults::{Fault, Kind, ReadRefusal};
 use crate::lines::{Item, StartLine};
+use script_words::{Fault, Kind, ReadRefusal};
 use std::alloc::Global;
 use unix_calls::{MOST_PROCESSES, MOST_WORK, Start, Work, work_of};
 use unix_names::{NodeId, PIDS_PER_NODE, Pid, Seq};

@@ -2,10 +2,11 @@
 ghost use Rattle.std.specs.Prelude.{◌≡◌, map, List, ℕ};
 ghost use Rattle.script_reader.specs.Statements as spec;
 
-use crate::faults::Kind;
 use crate::names::{Names, Numbers};
 use crate::places::Place;
-use crate::words::{is_minus_digits, is_word, name, number, signal, signal_number, word_at};
+use script_words::{
+    Kind, ended, is_minus_digits, is_word, name, node, number, signal, signal_number, word_at,
+};
 use unix_calls::{Arg, Statement};
 use unix_names::{Act, NodeId, SigSet};
 
@@ -81,31 +82,6 @@ pub fn verb_named(word: &[u8]) -> Option<Verb>
         .iter()
         .copied()
         .find(|v| is_word(word, text_of(*v)))
-}
-
-/// Passes a value on, where the line has no more words than these.
-#[tactic(auto, unfolding(crate::specs::Statements::ended))]
-pub fn ended<T: Drop>(words: &[&[u8]], count: usize, value: T) -> Result<T, Kind>
-    ensures { result ≡ spec.ended (map (λ w. w.now) words.now) count value }
-{
-    if words.len() <= count {
-        Ok(value)
-    } else {
-        Err(Kind::UnknownWord)
-    }
-}
-
-/// A node of the cluster.
-#[tactic(auto, unfolding(crate::specs::Statements::node))]
-pub fn node(nodes: u32, word: &[u8]) -> Result<u32, Kind>
-    ensures { result ≡ spec.node nodes word.now }
-{
-    let n = number(word)?;
-    if n < nodes {
-        Ok(n)
-    } else {
-        Err(Kind::NoSuchNode)
-    }
 }
 
 /// A variable that is given a value.

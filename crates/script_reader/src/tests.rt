@@ -1,6 +1,6 @@
-use crate::faults::{Fault, Kind, ReadRefusal};
 use crate::files::read_file;
 use file_parts::Span;
+use script_words::{Fault, Kind, ReadRefusal};
 use std::alloc::Global;
 use std::test::Fail;
 use unix_calls::World;

@@ -1,6 +1,7 @@
 use crate::files::write_file;
 use file_parts::Span;
-use script_reader::{ReadRefusal, read_file};
+use script_reader::read_file;
+use script_words::ReadRefusal;
 use std::alloc::Global;
 use std::test::Fail;
 use unix_calls::World;

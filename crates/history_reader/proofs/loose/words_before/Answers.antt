@@ -2,7 +2,7 @@ use Rattle.std.proofs.Common.{not, codes, ◌∙◌, rules, tests}
 use Rattle.std.proofs.lemmas.Iterator.{YieldsList-from_slice}
 use Rattle.std.proofs.lemmas.Iterator.Consumers.{count_from_yields_List, YieldsList-at}
 use Rattle.std.proofs.lemmas.Iterator.Search.{YieldsList-from_take_while}
-use Rattle.script_reader.specs.Words.{is_same}
+use Rattle.script_words.specs.Words.{is_same}
 use Rattle.history_reader.proofs.LooseLaws.{before-told}
 use Rattle.history_reader.proofs.loose.words_before.Goals as goal
 

@@ -3,7 +3,7 @@ use Rattle.std.specs.Prelude.{slice_range}
 use Rattle.std.proofs.lemmas.List.{drop_all}
 use Rattle.std.proofs.lemmas.Grind.{common_steps}
 use Rattle.byte_ends.specs.Text.{lines}
-use Rattle.script_reader.specs.declared.Fault.{Fault}
+use Rattle.script_words.specs.declared.Fault.{Fault}
 use Rattle.run_text.specs.Schedule.{SoFar, read_turn, schedule}
 use Rattle.run_text.proofs.Turns.{stops, ends}
 use Rattle.run_text.proofs.schedule.read_schedule.Goals as goal

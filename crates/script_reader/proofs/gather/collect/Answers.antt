@@ -1,7 +1,7 @@
 use Rattle.std.proofs.Common.{◌≡◌, [], ◌∷◌, ◌++◌, map, List, true, false, sym, ap, ◌∙◌, arith}
 use Rattle.std.proofs.lemmas.List.{map-append, append-nil}
 use Rattle.std.proofs.lemmas.Grind.{common_steps}
-use Rattle.script_reader.specs.Words.{Word}
+use Rattle.script_words.specs.Words.{Word}
 use Rattle.script_reader.specs.Files.{begins_with}
 use Rattle.script_reader.proofs.Gathered.{words_behind-yes, words_behind-not}
 use Rattle.script_reader.proofs.gather.collect.Goals as goal

@@ -1,7 +1,7 @@
 use Rattle.std.proofs.Common.{◌≡◌, ◌∷◌, ◌++◌, [], map, take, get_or, codes, refl, ap, ◌∙◌}
 use Rattle.std.proofs.lemmas.List.{take_all}
 use Rattle.byte_ends.specs.Text.{words}
-use Rattle.script_reader.specs.Words.{Row}
+use Rattle.script_words.specs.Words.{Row}
 use Rattle.script_reader.specs.Files.{words_behind, numbered, listed, gather}
 use Rattle.script_reader.proofs.Gathered.{words-more}
 use Rattle.script_reader.proofs.gather.gather.Goals as goal

@@ -1,6 +1,6 @@
 use Rattle.std.proofs.Common.{◌≡◌, sym, ap, ◌∙◌}
 use Rattle.unix_calls.specs.Work.{together, total_work}
-use Rattle.script_reader.specs.declared.faults.Kind.TheVariants.{TooMuchWork}
+use Rattle.script_words.specs.declared.faults.Kind.TheVariants.{TooMuchWork}
 use Rattle.script_reader.specs.Files.{fault_at, with_start, is_little}
 use Rattle.script_reader.proofs.Steps.{total-with}
 use Rattle.script_reader.proofs.starts.Starts.add.Goals as goal

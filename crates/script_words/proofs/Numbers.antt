@@ -6,8 +6,8 @@ use Rattle.std.specs.Str.Parse.{AllDigits, digits_value}
 use Rattle.std.proofs.lemmas.Bool.{cases_Bool}
 use Rattle.std.proofs.lemmas.Bool.Decides.{Decides-and, Decides-ltb, nat_tests}
 use Rattle.byte_ends.specs.Text.{IsNumber}
-use Rattle.script_reader.specs.declared.faults.Kind.TheVariants.{BadNumber}
-use Rattle.script_reader.specs.Words.{is_digit, is_number, number}
+use Rattle.script_words.specs.declared.faults.Kind.TheVariants.{BadNumber}
+use Rattle.script_words.specs.Words.{is_digit, is_number, number}
 
 digit : (c : ℕ) → Decides (is_digit c) (digit_value c < 10)
 digit c = (λ e. grind (arith, nat_tests), λ h. grind (arith, nat_tests))

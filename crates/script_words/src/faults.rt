@@ -1,7 +1,7 @@
 // What can be wrong with a file.
 ghost use Rattle.std.specs.Prelude.{◌≡◌};
-ghost use Rattle.script_reader.specs.Kinds.{name_of};
-ghost use Rattle.script_reader.specs.declared.faults.ReadRefusal.TheVariants.{NoMemory as OutOfMemory};
+ghost use Rattle.script_words.specs.Kinds.{name_of};
+ghost use Rattle.script_words.specs.declared.faults.ReadRefusal.TheVariants.{NoMemory as OutOfMemory};
 
 use std::alloc::{AllocError, AllocFailed};
 use std::fmt;
@@ -73,7 +73,7 @@ impl Kind {
 
 impl fmt::Display for Kind {
     ghost use Rattle.std.specs.Prelude.{Some};
-    ghost use Rattle.script_reader.specs.Kinds.{name_of};
+    ghost use Rattle.script_words.specs.Kinds.{name_of};
 
     ghost output = { λ k. Some (name_of k) };
 

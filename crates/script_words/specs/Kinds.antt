@@ -1,6 +1,6 @@
 use Rattle.std.specs.Prelude.{ℕ, List, codes}
-use Rattle.script_reader.specs.declared.faults.Kind.{Kind}
-use Rattle.script_reader.specs.declared.faults.Kind.TheVariants.{NotUtf8, NoClusterLine, UnknownWord, UnknownScript, LaterScript, BadNumber, NoSuchNode, TooManyNodes, TooManyScripts, TooManyStatements, TooManyStarts, TooMuchWork, TooManyTurns, NoStart, DoubleName, LongName}
+use Rattle.script_words.specs.declared.faults.Kind.{Kind}
+use Rattle.script_words.specs.declared.faults.Kind.TheVariants.{NotUtf8, NoClusterLine, UnknownWord, UnknownScript, LaterScript, BadNumber, NoSuchNode, TooManyNodes, TooManyScripts, TooManyStatements, TooManyStarts, TooMuchWork, TooManyTurns, NoStart, DoubleName, LongName}
 
 -- the word by which a fault of a kind is told
 abbrev pub name_of : Kind → List ℕ

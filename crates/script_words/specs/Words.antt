@@ -1,12 +1,12 @@
 -- words of a file, and what a word says by itself
-use Rattle.std.specs.Prelude.{ℕ, ◌^◌, ◌==◌, Bool, false, ◌&&◌, ◌||◌, not, nat_lt, nat_le, if◌then◌else◌, List, [], ◌∷◌, length, codes, Option, Some, None, Result, Ok, Err, find}
+use Rattle.std.specs.Prelude.{ℕ, ◌^◌, ◌==◌, Bool, true, false, ◌&&◌, ◌||◌, not, nat_lt, nat_le, if◌then◌else◌, List, [], ◌∷◌, length, codes, Option, Some, None, Result, Ok, Err, find}
 use Rattle.std.specs.List.{list_any, list_all, slice_index_or}
 use Rattle.std.specs.Str.{bytes_eq}
 use Rattle.std.specs.Str.Parse.{digits_value}
 use Rattle.unix_names.specs.declared.signals.Signal.{Signal}
-use Rattle.unix_names.specs.Signals.{number_of, word_of, all_signals, signal_of}
-use Rattle.script_reader.specs.declared.faults.Kind.{Kind}
-use Rattle.script_reader.specs.declared.faults.Kind.TheVariants.{UnknownWord, BadNumber, LongName}
+use Rattle.unix_names.specs.Signals.{number_of, signal_of, signal_named}
+use Rattle.script_words.specs.declared.faults.Kind.{Kind}
+use Rattle.script_words.specs.declared.faults.Kind.TheVariants.{UnknownWord, BadNumber, NoSuchNode, LongName}
 
 abbrev pub Word : Type 0
 Word = List ℕ
@@ -74,10 +74,6 @@ unfoldable pub begins_with_digit : Word → Bool
 begins_with_digit [] = false
 begins_with_digit (b ∷ bs) = is_digit b
 
--- the signal that a word names
-unfoldable pub signal_named : Word → Option Signal
-signal_named word = find (λ s. is_same word (word_of s)) all_signals
-
 -- a word at the place of a signal that may be any number
 unfoldable pub signal_number : Word → Result ℕ Kind
 signal_number word = if begins_with_digit word then number word else (found (signal_named word) UnknownWord >>= λ s. Ok (number_of s))
@@ -90,3 +86,20 @@ signal word = if begins_with_digit word then (number word >>= λ n. found (signa
 unfoldable pub is_minus_digits : Word → Bool
 is_minus_digits [] = false
 is_minus_digits (b ∷ bs) = (b == 45) && nat_lt 0 (length bs) && list_all is_digit bs
+
+-- a word at the place of a node of the cluster
+unfoldable pub node : ℕ → Word → Result ℕ Kind
+node nodes word = number word >>= λ n. (if nat_lt n nodes then Ok n else Err NoSuchNode)
+
+-- a value, where the line has no more words than these
+unfoldable pub ended : {A : Type 0} → Row → ℕ → A → Result A Kind
+ended row count value = if nat_le (length row) count then Ok value else Err UnknownWord
+
+abbrev pub begins_with_hash : Word → Bool
+begins_with_hash [] = false
+begins_with_hash (b ∷ bs) = b == 35
+
+-- a line without words, or one whose first word begins with `#`, says nothing
+unfoldable pub is_skipped : Row → Bool
+is_skipped [] = true
+is_skipped (word ∷ words) = begins_with_hash word

@@ -1,12 +1,13 @@
 // What a word says by itself.
-ghost use Rattle.std.specs.Prelude.{◌≡◌, map, Result, Ok};
-ghost use Rattle.script_reader.specs.Words.{is_same, word_at, is_digit, is_lower, is_name_byte, has_name_form, is_reserved, begins_with_digit, signal_named, is_minus_digits};
+ghost use Rattle.std.specs.Prelude.{◌≡◌, ◌<◌, map, IfOk};
+ghost use Rattle.std.specs.Str.{is_utf8 as is_text};
+ghost use Rattle.script_words.specs.Words.{is_same, word_at, is_digit, is_lower, is_name_byte, has_name_form, is_reserved, begins_with_digit, is_minus_digits};
 ghost use Rattle.std.specs.List.{list_any, list_all};
-ghost use Rattle.script_reader.specs.Words as words;
+ghost use Rattle.script_words.specs.Words as spec;
 
 use crate::faults::Kind;
 use byte_ends::number_at;
-use unix_names::{ALL_SIGNALS, Signal, number_of, signal_of, word_of};
+use unix_names::{Signal, number_of, signal_named, signal_of};
 
 /// The longest name, in bytes.
 const LONGEST_NAME: usize = 16;
@@ -97,7 +98,7 @@ fn is_reserved(word: &[u8]) -> bool
 /// Whether a word is a name: 1 to 16 bytes, a lower-case letter and then lower-case letters and digits, and not reserved.
 #[tactic(auto, unfolding(crate::specs::Words::name))]
 pub fn name(word: &[u8]) -> Result<(), Kind>
-    ensures { result ≡ words.name word.now }
+    ensures { result ≡ spec.name word.now }
 {
     if !has_name_form(word) || is_reserved(word) {
         Err(Kind::UnknownWord)
@@ -111,7 +112,7 @@ pub fn name(word: &[u8]) -> Result<(), Kind>
 /// The number that a word spells: 1 to 10 decimal digits, below 2^32.
 #[tactic(auto, unfolding(crate::specs::Words::number))]
 pub fn number(word: &[u8]) -> Result<u32, Kind>
-    ensures { result ≡ words.number word.now }
+    ensures { result ≡ spec.number word.now }
 {
     if word.is_empty() {
         return Err(Kind::UnknownWord);
@@ -129,20 +130,10 @@ fn begins_with_digit(word: &[u8]) -> bool
     }
 }
 
-#[tactic(auto, unfolding(crate::specs::Words::signal_named))]
-fn signal_named(word: &[u8]) -> Option<Signal>
-    ensures { result ≡ signal_named word.now }
-{
-    ALL_SIGNALS
-        .iter()
-        .copied()
-        .find(|s| is_word(word, word_of(*s)))
-}
-
 /// The number of a signal as `kill` and `action` take it: a signal's word, or any number.
 #[tactic(auto, unfolding(crate::specs::Words::signal_number))]
 pub fn signal_number(word: &[u8]) -> Result<u32, Kind>
-    ensures { result ≡ words.signal_number word.now }
+    ensures { result ≡ spec.signal_number word.now }
 {
     if begins_with_digit(word) {
         return number(word);
@@ -156,7 +147,7 @@ pub fn signal_number(word: &[u8]) -> Result<u32, Kind>
 /// The signal that `mask` takes: its word or its number.
 #[tactic(auto, unfolding(crate::specs::Words::signal))]
 pub fn signal(word: &[u8]) -> Result<Signal, Kind>
-    ensures { result ≡ words.signal word.now }
+    ensures { result ≡ spec.signal word.now }
 {
     if begins_with_digit(word) {
         return signal_of(number(word)?).ok_or(Kind::BadNumber);
@@ -173,4 +164,58 @@ pub fn is_minus_digits(word: &[u8]) -> bool
         [] => false,
         [first, digits @ ..] => *first == b'-' && !digits.is_empty() && are_digits(digits),
     }
+}
+
+/// The node that a word spells.
+#[tactic(auto, unfolding(crate::specs::Words::node))]
+pub fn node(nodes: u32, word: &[u8]) -> Result<u32, Kind>
+    ensures value { result ≡ spec.node nodes word.now }
+    ensures below { IfOk result (λ n. n < nodes) }
+{
+    let n = number(word)?;
+    if n < nodes {
+        Ok(n)
+    } else {
+        Err(Kind::NoSuchNode)
+    }
+}
+
+/// Passes a value on, where the line has no more words than these.
+#[tactic(auto, unfolding(crate::specs::Words::ended))]
+pub fn ended<T: Drop>(words: &[&[u8]], count: usize, value: T) -> Result<T, Kind>
+    ensures value { result ≡ spec.ended (map (λ w. w.now) words.now) count value }
+    ensures same { IfOk result (λ v. v ≡ value) }
+{
+    if words.len() <= count {
+        Ok(value)
+    } else {
+        Err(Kind::UnknownWord)
+    }
+}
+
+fn begins_with_hash(word: &[u8]) -> bool
+    ensures { result ≡ spec.begins_with_hash word.now }
+{
+    match word {
+        [] => false,
+        [first, ..] => *first == b'#',
+    }
+}
+
+/// Whether a line of these words says nothing: it has none, or the first begins with `#`.
+#[tactic(auto, unfolding(crate::specs::Words::is_skipped))]
+pub fn is_skipped(words: &[&[u8]]) -> bool
+    ensures { result ≡ spec.is_skipped (map (λ w. w.now) words.now) }
+{
+    match words {
+        [] => true,
+        [first, ..] => begins_with_hash(first),
+    }
+}
+
+/// Whether bytes are UTF-8.
+pub fn is_utf8(line: &[u8]) -> bool
+    ensures { result ≡ is_text line.now }
+{
+    std::str::from_utf8(line).is_ok()
 }
