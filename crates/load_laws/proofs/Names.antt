@@ -55,24 +55,28 @@ not-continued n h e =
 
 pub worker-named : (n : ℕ) → n < 2 ^ 32 → IsName (worker_name n)
 worker-named n h = record {
-  letter = 119;
-  others = decimal n;
-  is = refl;
-  lower = refl;
-  each = number-names n h;
+  form = record {
+    letter = 119;
+    others = decimal n;
+    is = refl;
+    lower = refl;
+    each = number-names n h;
+    free = free (worker_name n) reserved refl;
+  };
   few = let short = number-short n h in omega arith;
-  free = free (worker_name n) reserved refl;
 }
 
 pub leader-named : (n : ℕ) → n < 2 ^ 32 → IsName (leader_name n)
 leader-named n h = record {
-  letter = 108;
-  others = codes "ead" ++ decimal n;
-  is = refl;
-  lower = refl;
-  each = number-names n h;
+  form = record {
+    letter = 108;
+    others = codes "ead" ++ decimal n;
+    is = refl;
+    lower = refl;
+    each = number-names n h;
+    free = free (leader_name n) reserved refl;
+  };
   few = let short = number-short n h in omega arith;
-  free = free (leader_name n) reserved refl;
 }
 
 -- all reserved words but the last
@@ -81,25 +85,29 @@ most_reserved = codes "self" ∷ codes "maker" ∷ codes "none" ∷ codes "any" 
 
 pub child-named : (n : ℕ) → n < 2 ^ 32 → IsName (child_name n)
 child-named n h = record {
-  letter = 99;
-  others = decimal n;
-  is = refl;
-  lower = refl;
-  each = number-names n h;
+  form = record {
+    letter = 99;
+    others = decimal n;
+    is = refl;
+    lower = refl;
+    each = number-names n h;
+    free = All-append (Differs (child_name n)) most_reserved (codes "continued" ∷ []) (free (child_name n) most_reserved refl)
+        (All-cons (Differs (child_name n)) (codes "continued") [] (not-continued n h) (All-nil (Differs (child_name n))));
+  };
   few = let short = number-short n h in omega arith;
-  free = All-append (Differs (child_name n)) most_reserved (codes "continued" ∷ []) (free (child_name n) most_reserved refl)
-      (All-cons (Differs (child_name n)) (codes "continued") [] (not-continued n h) (All-nil (Differs (child_name n))));
 }
 
 pub start-named : (n : ℕ) → n < 2 ^ 32 → IsName (start_name n)
 start-named n h = record {
-  letter = 112;
-  others = decimal n;
-  is = refl;
-  lower = refl;
-  each = number-names n h;
+  form = record {
+    letter = 112;
+    others = decimal n;
+    is = refl;
+    lower = refl;
+    each = number-names n h;
+    free = free (start_name n) reserved refl;
+  };
   few = let short = number-short n h in omega arith;
-  free = free (start_name n) reserved refl;
 }
 
 -- ---- no name stands twice

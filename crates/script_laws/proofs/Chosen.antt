@@ -39,13 +39,15 @@ free c ds d = All-from_recursion (λ r. c ∷ ds ≡ r → ⊥) reserved (
 -- a letter and a number are a name
 pub letter_name : (c n : ℕ) → is_lower c ≡ true → n < 2 ^ 32 → IsName (c ∷ decimal n)
 letter_name c n l lt = record {
-  letter = c;
-  others = decimal n;
-  is = refl;
-  lower = l;
-  each = digits_name (decimal n) (all_digits n lt);
+  form = record {
+    letter = c;
+    others = decimal n;
+    is = refl;
+    lower = l;
+    each = digits_name (decimal n) (all_digits n lt);
+    free = free c (decimal n) (all_digits n lt);
+  };
   few = short (IsNumber-decimal n lt).few;
-  free = free c (decimal n) (all_digits n lt);
 }
   where
     short : length (decimal n) ≤ 10 → suc (length (decimal n)) ≤ 16

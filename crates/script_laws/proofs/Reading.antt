@@ -20,7 +20,7 @@ use Rattle.script_reader.specs.Statements.{own_variable, variable, group, proces
 use Rattle.script_words.proofs.Numbers.{is_number-decides}
 use Rattle.list_laws.proofs.Filters.{and_false}
 use Rattle.script_laws.specs.Writable.{IsTarget}
-use Rattle.script_laws.specs.Grammar.{change_words, act_word, IsName, Naming, IsCalled, IsFor, IsArg, Targets, Wants, Selects, IsForSignal, IsForSignalNumber, AreForSet}
+use Rattle.script_laws.specs.Grammar.{HasNameForm, change_words, act_word, IsName, Naming, IsCalled, IsFor, IsArg, Targets, Wants, Selects, IsForSignal, IsForSignalNumber, AreForSet}
 use Rattle.script_laws.proofs.Words.{same_words}
 
 -- ---- words that differ
@@ -43,17 +43,17 @@ none_of : (word : Word) (rs : List Word) → All (λ r. word ≡ r → ⊥) rs �
 none_of word [] all = refl
 none_of word (r ∷ rs) all = rw (not_same word r (All-head (λ r. word ≡ r → ⊥) r rs all), none_of word rs (All-tail (λ r. word ≡ r → ⊥) r rs all)) refl
 
-pub name_form : (word : Word) → IsName word → has_name_form word ≡ true
+pub name_form : (word : Word) → HasNameForm word → has_name_form word ≡ true
 unfolding has_name_form
 name_form word n = rw (n.is, n.lower, n.each) refl
 
 pub name_read : (word : Word) → IsName word → name word ≡ Ok tt
 unfolding name is_reserved
-name_read word n = rw (name_form word n, none_of word reserved n.free, le-leb (length word) 16 n.few) refl
+name_read word n = rw (name_form word n.form, none_of word reserved n.form.free, le-leb (length word) 16 n.few) refl
 
 -- a name is no word that begins otherwise
 pub name_first : (word : Word) (b : ℕ) (bs : Word) → IsName word → is_lower b ≡ false → word ≡ b ∷ bs → ⊥
-name_first word b bs n e h = go n.letter n.others b bs (sym n.is ∙ h) n.lower e
+name_first word b bs n e h = go n.form.letter n.form.others b bs (sym n.form.is ∙ h) n.form.lower e
   where
     go : (c : ℕ) (cs : Word) (b : ℕ) (bs : Word) → c ∷ cs ≡ b ∷ bs → is_lower c ≡ true → is_lower b ≡ false → ⊥
     go c cs b bs s l e = let is : c ≡ b = cc in let m : is_lower b ≡ true = subst (λ z. is_lower z ≡ true) is l in cc
@@ -145,9 +145,9 @@ module _ (t : Table) (naming : Naming) (agrees : Agrees t naming.variables) wher
   unfolding group
   var_group word v h =
       let n = agrees.name word v h in
-      let none : is_same word (codes "none") ≡ false = not_same word (codes "none") (n.free 2 [] (omega arith)) in
-      let self : is_same word (codes "self") ≡ false = not_same word (codes "self") (n.free 0 [] (omega arith)) in
-      let maker : is_same word (codes "maker") ≡ false = not_same word (codes "maker") (n.free 1 [] (omega arith)) in
+      let none : is_same word (codes "none") ≡ false = not_same word (codes "none") (n.form.free 2 [] (omega arith)) in
+      let self : is_same word (codes "self") ≡ false = not_same word (codes "self") (n.form.free 0 [] (omega arith)) in
+      let maker : is_same word (codes "maker") ≡ false = not_same word (codes "maker") (n.form.free 1 [] (omega arith)) in
       rw (none, self, maker) (variable_read word v h)
 
   -- a variable is neither a number nor a word with a meaning of its own
@@ -188,7 +188,7 @@ module _ (t : Table) (naming : Naming) (agrees : Agrees t naming.variables) wher
   minus_name name Nobody h g = rw h refl
   minus_name name Own h g = rw h refl
   minus_name name Maker h g = rw h refl
-  minus_name name (Var v) h g = let n = agrees.name name v h in rw n.is (letters n.letter n.others n.lower)
+  minus_name name (Var v) h g = let n = agrees.name name v h in rw n.form.is (letters n.form.letter n.form.others n.form.lower)
 
   no_minus : (word : Word) (arg : Arg) → IsArg naming word arg → target t word ≡ (process t word >>= λ a. Ok (false, a))
   unfolding target is_minus_digits
@@ -197,7 +197,7 @@ module _ (t : Table) (naming : Naming) (agrees : Agrees t naming.variables) wher
   no_minus word Nobody h = rw h refl
   no_minus word Own h = rw h refl
   no_minus word Maker h = rw h refl
-  no_minus word (Var v) h = let n = agrees.name word v h in rw (n.is, not_equal n.letter 45 (no_45 n.letter n.lower)) refl
+  no_minus word (Var v) h = let n = agrees.name word v h in rw (n.form.is, not_equal n.form.letter 45 (no_45 n.form.letter n.form.lower)) refl
 
   pub target_read : (word : Word) (minus : Bool) (arg : Arg) → Targets naming word minus arg → target t word ≡ Ok (minus, arg)
   unfolding target
@@ -236,7 +236,7 @@ module _ (t : Table) (naming : Naming) (agrees : Agrees t naming.variables) wher
   not_any word false Nobody h = rw h refl
   not_any word false Own h = rw h refl
   not_any word false Maker h = rw h refl
-  not_any word false (Var v) h = not_same word (codes "any") ((agrees.name word v h).free 3 [] (omega arith))
+  not_any word false (Var v) h = not_same word (codes "any") ((agrees.name word v h).form.free 3 [] (omega arith))
   not_any word true arg h = rw h.1 refl
 
   pub selector_read : (word : Word) (any minus : Bool) (arg : Arg) → Selects naming word any minus arg → selector t word ≡ Ok (any, minus, arg)

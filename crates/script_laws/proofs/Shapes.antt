@@ -60,7 +60,7 @@ number_some word n f e = none (subst (λ (w : Word). 1 ≤ length w) e f.0.some)
     none le = omega arith
 
 pub name_some : (word : Word) → IsName word → word ≡ [] → ⊥
-name_some word n e = let h : n.letter ∷ n.others ≡ [] = sym n.is ∙ e in cc
+name_some word n e = let h : n.form.letter ∷ n.form.others ≡ [] = sym n.form.is ∙ e in cc
 
 signal_some : (s : Signal) → word_of s ≡ [] → ⊥
 signal_some Hup e = cc

@@ -46,13 +46,15 @@ name_understood (b ∷ bs) u e =
     let l = and_parts (is_lower b) (list_all is_name_byte (b ∷ bs)) f.0 in
     let few = then_ok (nat_le (length (b ∷ bs)) 16) (Ok tt) LongName u a.1 in
     record {
-      letter = b;
-      others = bs;
-      is = refl;
-      lower = l.0;
-      each = (and_parts (is_name_byte b) (list_all is_name_byte bs) l.1).1;
+      form = record {
+        letter = b;
+        others = bs;
+        is = refl;
+        lower = l.0;
+        each = (and_parts (is_name_byte b) (list_all is_name_byte bs) l.1).1;
+        free = none_any (b ∷ bs) reserved (no_true (list_any (is_same (b ∷ bs)) reserved) f.1);
+      };
       few = leb-true (length (b ∷ bs)) 16 few.0;
-      free = none_any (b ∷ bs) reserved (no_true (list_any (is_same (b ∷ bs)) reserved) f.1);
     }
 
 -- ---- numbers

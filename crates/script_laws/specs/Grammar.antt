@@ -21,15 +21,19 @@ use Rattle.unix_calls.specs.Valid.{IsValid}
 use Rattle.script_words.specs.Words.{Word, Row, is_lower, is_name_byte, reserved, is_skipped}
 use Rattle.script_laws.specs.Writable.{IsTarget, AreInOrder, variables_of}
 
--- 1 to 16 bytes, a lower-case letter and then lower-case letters and digits, and no word with a meaning of its own
-pub record IsName (word : Word) : Type 0 where
+-- a lower-case letter and then lower-case letters and digits, and no word with a meaning of its own
+pub record HasNameForm (word : Word) : Type 0 where
   pub letter : ℕ
   pub others : Word
   pub is : word ≡ letter ∷ others
   pub lower : is_lower letter ≡ true
   pub each : list_all is_name_byte others ≡ true
-  pub few : length word ≤ 16
   pub free : All (λ r. word ≡ r → ⊥) reserved
+
+-- such a word of 1 to 16 bytes
+pub record IsName (word : Word) : Type 0 where
+  pub form : HasNameForm word
+  pub few : length word ≤ 16
 
 -- the names of a part, each at the place of its number
 pub record Naming : Type 0 where

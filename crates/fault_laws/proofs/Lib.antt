@@ -1,0 +1,10 @@
+pub mod Tells
+pub mod Knows
+pub mod Slots
+pub mod Readings
+pub mod Forms
+pub mod Rows
+pub mod Around
+pub mod Counted
+pub mod Bodies
+pub mod Least
