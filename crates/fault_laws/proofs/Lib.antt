@@ -1,5 +1,6 @@
 pub mod Tells
 pub mod Knows
+pub mod Words
 pub mod Slots
 pub mod Readings
 pub mod Forms
