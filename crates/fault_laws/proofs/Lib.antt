@@ -5,6 +5,10 @@ pub mod Slots
 pub mod Readings
 pub mod Forms
 pub mod Rows
+pub mod Positions
+pub mod Places
+pub mod Nodes
+pub mod Names
 pub mod Around
 pub mod Counted
 pub mod Bodies
