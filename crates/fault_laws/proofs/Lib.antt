@@ -5,6 +5,7 @@ pub mod Readings
 pub mod Forms
 pub mod Rows
 pub mod Around
+pub mod Own
 pub mod Counted
 pub mod Bodies
 pub mod Least
