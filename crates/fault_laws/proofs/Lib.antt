@@ -6,6 +6,7 @@ pub mod Forms
 pub mod Rows
 pub mod Around
 pub mod Own
+pub mod Weights
 pub mod Counted
 pub mod Bodies
 pub mod Least
