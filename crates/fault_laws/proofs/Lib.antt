@@ -7,6 +7,8 @@ pub mod Rows
 pub mod Around
 pub mod Own
 pub mod Weights
+pub mod Firsts
+pub mod Weighed
 pub mod Counted
 pub mod Bodies
 pub mod Least

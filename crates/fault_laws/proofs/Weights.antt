@@ -71,7 +71,7 @@ first_one names word m n a b = go (order m n)
     go (inr (inr e)) = e
 
 -- what a line adds that says a statement without a fault
-abbrev ChargesSo : List Row → Row → Charge → Type 0
+abbrev pub ChargesSo : List Row → Row → Charge → Type 0
 ChargesSo rows row one = (is_statement row ≡ true) × (begins_with (codes "fork") row ≡ false) × (begins_with (codes "exec") row ≡ false)
 ChargesSo rows row (forks script) = (begins_with (codes "fork") row ≡ true) × IsFirst (script_names rows) (word_at row 2) script
 ChargesSo rows row (execs script) = (begins_with (codes "exec") row ≡ true) × IsFirst (script_names rows) (word_at row 1) script
@@ -80,6 +80,11 @@ weighs_so : (rows : List Row) (row : Row) (s : Statement) → Weighs rows row s 
 weighs_so rows row (Fork var script at) w = w
 weighs_so rows row (Exec script) w = w
 weighs_so rows row _ w = w
+
+pub so_weighs : (rows : List Row) (row : Row) (s : Statement) → ChargesSo rows row (charge s) → Weighs rows row s
+so_weighs rows row (Fork var script at) w = w
+so_weighs rows row (Exec script) w = w
+so_weighs rows row _ w = w
 
 begun_by : (row : Row) (first : Word) → begins_with first row ≡ true → word_at row 0 ≡ first
 unfolding begins_with
@@ -138,7 +143,7 @@ module _ (lines : List (List ℕ)) where
   AreSame xs ss ys ts = (charges xs ≡ charges ys) × (burdens ss ≡ burdens ts)
 
   -- what a line makes of the statements and the scripts behind it
-  abbrev StepsSo : ℕ → Row → List Statement → List Script → List Statement → List Script → Type 0
+  abbrev pub StepsSo : ℕ → Row → List Statement → List Script → List Statement → List Script → Type 0
   StepsSo k row later more xs ss =
       ((begins_with (codes "script") row ≡ true) × (xs ≡ []) × (ss ≡ record { statements = later } ∷ more))
       ⊎ ((begins_with (codes "script") row ≡ false) × (added : Option Statement) × Adds lines k row added × (xs ≡ with_said added later) × (ss ≡ more))
