@@ -9,6 +9,7 @@ pub mod Own
 pub mod Weights
 pub mod Firsts
 pub mod Weighed
+pub mod Started
 pub mod Counted
 pub mod Bodies
 pub mod Least

@@ -1,6 +1,6 @@
 -- a statement that is read makes as much work as its line says, and the scripts that are read are those of the part
-use Rattle.std.proofs.Common.{◌≡◌, ◌⊎◌, inl, inr, ℕ, zero, suc, ◌+◌, Bool, true, false, cond, List, [], ◌∷◌, drop, refl, sym, ap, ◌∙◌, subst, arith, Option, Some, None, Result, Ok, Err}
-use Rattle.std.specs.Prelude.{codes, slice_get, map, is_some, nat_lt, IsOk}
+use Rattle.std.proofs.Common.{◌≡◌, inl, inr, ℕ, zero, suc, ◌+◌, Bool, true, false, cond, List, [], ◌∷◌, drop, refl, sym, ap, ◌∙◌, subst, arith, Some, Ok, Err}
+use Rattle.std.specs.Prelude.{codes, slice_get, map, is_some, nat_lt}
 use Rattle.std.specs.Str.{is_utf8}
 use Rattle.std.proofs.lemmas.Bool.{eqb-true}
 use Rattle.byte_ends.specs.Text.{words}
@@ -14,8 +14,6 @@ use Rattle.script_reader.specs.declared.places.Place.{Place}
 use Rattle.script_reader.specs.declared.statements.Verb.{Verb}
 use Rattle.script_reader.specs.declared.statements.Verb.TheVariants as verb
 use Rattle.script_reader.specs.declared.lines.Item.{Item}
-use Rattle.script_reader.specs.declared.lines.Item.TheVariants as item
-use Rattle.script_reader.specs.Names.{number_in}
 use Rattle.script_reader.specs.Statements.{text_of, verb_named, own_variable, script, earlier_script, process, target, wanted_group, selector, changes, act, signals, site, fork_statement, wait_statement, kill_statement, setpgid_statement, action_statement, mask_statement, migrate_statement, exec_statement, exit_statement, getpgid_statement, getsid_statement, statement_of}
 use Rattle.script_reader.specs.Lines.{read_row, read_line, place_after}
 use Rattle.script_reader.specs.Files.{begins_with, Told, first_place, said, with_said, body, scripts_of}
@@ -29,7 +27,7 @@ use Rattle.fault_laws.specs.Context.{is_statement, script_names}
 use Rattle.fault_laws.specs.Faults.{Aspect, OwnFault, IsFirst, Weighs, Adds, Bodies, HaveBodies}
 use Rattle.fault_laws.proofs.Around.{place_at, HasCluster, line_told}
 use Rattle.fault_laws.proofs.Own.{own_clean, own_fault}
-use Rattle.fault_laws.proofs.Weights.{Charge, one, charge, ChargesSo, so_weighs, StepsSo}
+use Rattle.fault_laws.proofs.Weights.{one, charge, ChargesSo, so_weighs, StepsSo}
 use Rattle.fault_laws.proofs.Firsts.{script_first}
 
 -- ---- statements of no script
@@ -200,13 +198,13 @@ module _ (lines : List (List ℕ)) where
 
   -- ---- the scripts
   -- lines that stand behind so many others
-  abbrev StandAt : ℕ → List Told → Type 0
+  abbrev pub StandAt : ℕ → List Told → Type 0
   StandAt k rest = (j : ℕ) (t : Told) → slice_get rest j ≡ Some t → slice_get (told_of lines) (k + j) ≡ Some t
 
-  stand_next : (k : ℕ) (t : Told) (rest : List Told) → StandAt k (t ∷ rest) → StandAt (k + 1) rest
+  pub stand_next : (k : ℕ) (t : Told) (rest : List Told) → StandAt k (t ∷ rest) → StandAt (k + 1) rest
   stand_next k t rest stand = λ j u e. let is : k + suc j ≡ k + 1 + j = omega arith in subst (λ (m : ℕ). slice_get (told_of lines) m ≡ Some u) is (stand (suc j) u e)
 
-  stand_here : (k : ℕ) (t : Told) (rest : List Told) → StandAt k (t ∷ rest) → slice_get (told_of lines) k ≡ Some t
+  pub stand_here : (k : ℕ) (t : Told) (rest : List Told) → StandAt k (t ∷ rest) → slice_get (told_of lines) k ≡ Some t
   stand_here k t rest stand = let is : k + zero ≡ k = omega arith in subst (λ (m : ℕ). slice_get (told_of lines) m ≡ Some t) is (stand zero t refl)
 
   step_bodies : (k : ℕ) (t : Told) (rest : List Told) (b : Bool) → begins_with (codes "script") t.0 ≡ b → Adds lines k t.0 (said t.1)
@@ -218,10 +216,10 @@ module _ (lines : List (List ℕ)) where
   unfolding body scripts_of
   told_bodies cluster k [] stand = (refl, refl)
   told_bodies cluster k (t ∷ rest) stand = (
-      body rest,
-      scripts_of rest,
-      told_bodies cluster (k + 1) rest (stand_next k t rest stand),
-      step_bodies k t rest (begins_with (codes "script") t.0) refl (line_adds cluster k t (stand_here k t rest stand)),
+    body rest,
+    scripts_of rest,
+    told_bodies cluster (k + 1) rest (stand_next k t rest stand),
+    step_bodies k t rest (begins_with (codes "script") t.0) refl (line_adds cluster k t (stand_here k t rest stand)),
   )
 
   pub have_bodies : HasCluster lines → HaveBodies lines (scripts_of (told_of lines))

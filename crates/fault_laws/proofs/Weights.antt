@@ -1,19 +1,18 @@
 -- all scripts that are to make as much work as those of a part have the same works
-use Rattle.std.proofs.Common.{◌≡◌, ◌⊎◌, inl, inr, ◌++◌, ℕ, ◌+◌, ◌<◌, Bool, true, false, List, [], ◌∷◌, refl, sym, ap, ◌∙◌, subst, arith, Option, Some, None}
-use Rattle.std.specs.Prelude.{codes, map, fold, slice_get, is_some}
+use Rattle.std.proofs.Common.{◌≡◌, ◌⊎◌, inl, inr, ◌++◌, ℕ, ◌+◌, ◌<◌, Bool, true, false, List, [], ◌∷◌, refl, sym, ap, ◌∙◌, arith, Option, Some, None}
+use Rattle.std.specs.Prelude.{codes, map, fold, is_some}
 use Rattle.byte_ends.specs.Text.{words}
 use Rattle.unix_calls.specs.declared.world.Script.{Script}
 use Rattle.unix_calls.specs.declared.world.Statement.{Statement}
 use Rattle.unix_calls.specs.declared.world.Statement.TheVariants.{Fork, Exec}
 use Rattle.unix_calls.specs.declared.work.Work.{Work}
-use Rattle.unix_calls.specs.Work.{work, together, work_of, without_itself, with_statement, script_work, with_script, works}
-use Rattle.script_words.specs.declared.faults.Kind.{Kind}
+use Rattle.unix_calls.specs.Work.{work, together, work_of, without_itself, with_statement, with_script, works}
 use Rattle.script_words.specs.Words.{Word, Row, is_same, word_at}
 use Rattle.script_reader.specs.Statements.{verb_named}
 use Rattle.script_reader.specs.Files.{begins_with, with_said}
 use Rattle.script_laws.proofs.Words.{same_words, begins_so}
 use Rattle.fault_laws.specs.Context.{is_statement, script_names}
-use Rattle.fault_laws.specs.Faults.{Aspect, OwnFault, IsFirst, Weighs, Adds, Bodies, HaveBodies}
+use Rattle.fault_laws.specs.Faults.{IsFirst, Weighs, Adds, Bodies, HaveBodies}
 
 -- what a statement adds to the work: a fork or an exec also that of a script
 pub data Charge : Type 0 where
@@ -160,8 +159,8 @@ module _ (lines : List (List ℕ)) where
       go (inl x) (inr y) h = no_both _ x.0 y.0
       go (inr x) (inl y) h = no_both _ y.0 x.0
       go (inr x) (inr y) h = (
-          ap charges x.3 ∙ added_same k row x.1 y.1 a.0 b.0 x.2 y.2 h.0 ∙ ap charges (sym y.3),
-          ap burdens x.4 ∙ h.1 ∙ ap burdens (sym y.4),
+        ap charges x.3 ∙ added_same k row x.1 y.1 a.0 b.0 x.2 y.2 h.0 ∙ ap charges (sym y.3),
+        ap burdens x.4 ∙ h.1 ∙ ap burdens (sym y.4),
       )
 
   pub have_same : (a b : List Script) → HaveBodies lines a → HaveBodies lines b → works a ≡ works b
