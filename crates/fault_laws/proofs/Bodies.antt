@@ -1,23 +1,79 @@
 -- too much work is what the reader finds to be too much
-use Rattle.std.proofs.Common.{◌≡◌, ℕ, ◌+◌, ◌≤◌, true, false, List, [], take, Some}
-use Rattle.std.specs.Prelude.{codes, slice_get, map, IsOk}
+use Rattle.std.proofs.Common.{◌≡◌, inl, inr, ℕ, ◌+◌, ◌<◌, ◌≤◌, Bool, true, false, ◌&&◌, List, [], take, refl, sym, ap, ◌∙◌, subst, arith, Some}
+use Rattle.std.specs.Prelude.{codes, slice_get, map, nat_le, IsOk}
+use Rattle.std.specs.List.{AllZip}
+use Rattle.std.proofs.lemmas.Bool.{leb-true, leb-false, and_parts}
 use Rattle.byte_ends.specs.Text.{words}
+use Rattle.unix_calls.specs.declared.work.Work.{Work}
 use Rattle.unix_calls.specs.Work.{works, total_work}
 use Rattle.script_words.specs.Words.{Row}
-use Rattle.script_reader.specs.Files.{begins_with, Told, scripts_of, is_little}
+use Rattle.script_reader.specs.Files.{begins_with, words_behind, Told, scripts_of, is_little}
 use Rattle.script_laws.proofs.Parts.{told_of}
-use Rattle.fault_laws.specs.Faults.{Overworks}
+use Rattle.fault_laws.specs.Context.{script_names}
+use Rattle.fault_laws.specs.Faults.{IsFirst, started_work, IsMuch, Overworks}
 use Rattle.fault_laws.proofs.Around.{HasCluster}
 use Rattle.fault_laws.proofs.Counted.{starts_behind}
+use Rattle.fault_laws.proofs.Weights.{have_same}
+use Rattle.fault_laws.proofs.Weighed.{StandAt, have_bodies}
+use Rattle.fault_laws.proofs.Started.{scripts_started, started_same, AreNamed, AllOk, told_named, named_one, taken, rows_taken}
 
 -- the lines up to and with this one are read without a fault
 abbrev pub AreReadTo : List (List ℕ) → ℕ → Type 0
 AreReadTo lines k = (j : ℕ) (t : Told) → j ≤ k → slice_get (told_of lines) j ≡ Some t → IsOk t.1
 
+-- ---- work that is little is not much
+much_more : (w : Work) → is_little w ≡ false → IsMuch w
+much_more w e = go (nat_le w.processes 1024) (nat_le w.statements 4096) refl refl e
+  where
+    go : (a b : Bool) → nat_le w.processes 1024 ≡ a → nat_le w.statements 4096 ≡ b → a && b ≡ false → IsMuch w
+    go false b ea eb h = inl (leb-false w.processes 1024 ea)
+    go true false ea eb h = inr (leb-false w.statements 4096 eb)
+    go true true ea eb h = cc
+
+little_not : (w : Work) → is_little w ≡ true → IsMuch w → ⊥
+little_not w e much =
+    let p = and_parts (nat_le w.processes 1024) (nat_le w.statements 4096) e in
+    no (leb-true w.processes 1024 p.0) (leb-true w.statements 4096 p.1) much
+  where
+    no : w.processes ≤ 1024 → w.statements ≤ 4096 → IsMuch w → ⊥
+    no a b (inl m) = omega arith
+    no a b (inr m) = omega arith
+
+-- ---- the lines up to and with one
+module _ (lines : List (List ℕ)) (k : ℕ) where
+  abbrev up_to : List Told
+  up_to = take (k + 1) (told_of lines)
+
+  all_stand : StandAt lines 0 up_to
+  all_stand = λ j t e. let is : j ≡ 0 + j = omega arith in subst (λ (m : ℕ). slice_get (told_of lines) m ≡ Some t) is ((taken (k + 1) (told_of lines) j t e).1)
+
+  all_ok : AreReadTo lines k → AllOk lines up_to
+  all_ok read = λ j t e. let h = taken (k + 1) (told_of lines) j t e in read j t (within j h.0) h.1
+    where
+      within : (j : ℕ) → j < k + 1 → j ≤ k
+      within j lt = omega arith
+
+  are_started : AreReadTo lines k → AllZip (IsFirst (script_names (map words lines))) (words_behind (codes "start") 2 (take (k + 1) (map words lines))) (scripts_started up_to)
+  are_started read = subst (λ (rows : List Row). AreNamed lines rows (scripts_started up_to)) (rows_taken lines (k + 1)) (told_named lines 0 up_to all_stand (all_ok read))
+
 pub overworks : (lines : List (List ℕ)) (k : ℕ) (row : Row) → HasCluster lines → AreReadTo lines k → slice_get (map words lines) k ≡ Some row → begins_with (codes "start") row ≡ true
     → is_little (total_work (works (scripts_of (told_of lines))) (starts_behind [] (take (k + 1) (told_of lines)))) ≡ false → Overworks lines k
-overworks lines k row cluster read there start much = ?
+overworks lines k row cluster read there start much = record {
+  row = row;
+  there = there;
+  starts = start;
+  scripts = scripts_of (told_of lines);
+  bodies = have_bodies lines cluster;
+  numbers = scripts_started (take (k + 1) (told_of lines));
+  started = are_started lines k read;
+  much = much_more _ (ap is_little (sym (started_same (works (scripts_of (told_of lines))) (take (k + 1) (told_of lines)))) ∙ much);
+}
 
 pub overworks_not : (lines : List (List ℕ)) (k : ℕ) → HasCluster lines → AreReadTo lines k
     → is_little (total_work (works (scripts_of (told_of lines))) (starts_behind [] (take (k + 1) (told_of lines)))) ≡ true → Overworks lines k → ⊥
-overworks_not lines k cluster read little over = ?
+overworks_not lines k cluster read little over =
+    let scripts : works over.scripts ≡ works (scripts_of (told_of lines)) = have_same lines over.scripts (scripts_of (told_of lines)) over.bodies (have_bodies lines cluster) in
+    let numbers : over.numbers ≡ scripts_started (take (k + 1) (told_of lines)) = named_one _ _ over.numbers (scripts_started (take (k + 1) (told_of lines))) over.started (are_started lines k read) in
+    let same : started_work (works over.scripts) over.numbers ≡ total_work (works (scripts_of (told_of lines))) (starts_behind [] (take (k + 1) (told_of lines))) =
+    ap (λ (ws : List Work). started_work ws over.numbers) scripts ∙ ap (started_work (works (scripts_of (told_of lines)))) numbers ∙ sym (started_same (works (scripts_of (told_of lines))) (take (k + 1) (told_of lines))) in
+    little_not _ (ap is_little same ∙ little) over.much

@@ -10,6 +10,11 @@ pub mod Places
 pub mod Nodes
 pub mod Names
 pub mod Around
+pub mod Own
+pub mod Weights
+pub mod Firsts
+pub mod Weighed
+pub mod Started
 pub mod Counted
 pub mod Bodies
 pub mod Least
