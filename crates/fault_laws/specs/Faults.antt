@@ -72,8 +72,8 @@ abbrev pub Bodies : List (List ℕ) → ℕ → List Row → List Statement → 
 Bodies lines k [] statements scripts = (statements ≡ []) × (scripts ≡ [])
 Bodies lines k (row ∷ rows) statements scripts =
     (later : List Statement) × (more : List Script) × Bodies lines (k + 1) rows later more × (
-      ((begins_with (codes "script") row ≡ true) × (statements ≡ []) × (scripts ≡ record { statements = later } ∷ more))
-      ⊎ ((begins_with (codes "script") row ≡ false) × (added : Option Statement) × Adds lines k row added × (statements ≡ with_said added later) × (scripts ≡ more)))
+    ((begins_with (codes "script") row ≡ true) × (statements ≡ []) × (scripts ≡ record { statements = later } ∷ more))
+    ⊎ ((begins_with (codes "script") row ≡ false) × (added : Option Statement) × Adds lines k row added × (statements ≡ with_said added later) × (scripts ≡ more)))
 
 -- scripts that make as much work as those of the part
 abbrev pub HaveBodies : List (List ℕ) → List Script → Type 0

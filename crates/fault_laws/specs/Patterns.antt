@@ -90,5 +90,5 @@ abbrev pub IsWrong : List Row → List Row → Row → Kind → Type 0
 IsWrong rows before [] kind = ⊥
 IsWrong rows before (word ∷ words) kind =
     (is_skipped (word ∷ words) ≡ false) × (
-      (((form : Pattern) → ¬ Begins before word form) × (kind ≡ first_kind (is_begun before)))
-      ⊎ ((form : Pattern) × Begins before word form × AreWrong rows before form words kind))
+    (((form : Pattern) → ¬ Begins before word form) × (kind ≡ first_kind (is_begun before)))
+    ⊎ ((form : Pattern) × Begins before word form × AreWrong rows before form words kind))
