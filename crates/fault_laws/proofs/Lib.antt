@@ -7,4 +7,5 @@ pub mod Rows
 pub mod Around
 pub mod Counted
 pub mod Bodies
+pub mod Own
 pub mod Least
