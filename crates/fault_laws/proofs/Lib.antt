@@ -8,4 +8,7 @@ pub mod Around
 pub mod Counted
 pub mod Bodies
 pub mod Own
+pub mod Stops
+pub mod Reached
+pub mod Firsts
 pub mod Least
