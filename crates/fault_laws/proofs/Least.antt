@@ -19,7 +19,7 @@ use Rattle.fault_laws.specs.Faults.{rank}
 use Rattle.fault_laws.specs.Told.{IsNotBefore, IsLeastFault, HasNoFault, LeastIsTold, SpellsOne, HasLeastFault, SpellsOrFails}
 use Rattle.fault_laws.proofs.Around.{knows_end}
 use Rattle.fault_laws.proofs.Stops.{stops, passes, none_little}
-use Rattle.fault_laws.proofs.Firsts.{silent_least, stop_least, AreClean, passes_clean, open_least, idle_least, no_fault}
+use Rattle.fault_laws.proofs.Earliest.{silent_least, stop_least, AreClean, passes_clean, open_least, idle_least, no_fault}
 
 -- where the line behind a part would stand
 abbrev end_place : List (List ℕ) → Place
