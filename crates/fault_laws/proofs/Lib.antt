@@ -17,4 +17,8 @@ pub mod Weighed
 pub mod Started
 pub mod Counted
 pub mod Bodies
+pub mod Own
+pub mod Stops
+pub mod Reached
+pub mod Firsts
 pub mod Least
