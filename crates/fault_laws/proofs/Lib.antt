@@ -17,8 +17,7 @@ pub mod Weighed
 pub mod Started
 pub mod Counted
 pub mod Bodies
-pub mod Own
 pub mod Stops
 pub mod Reached
-pub mod Firsts
+pub mod Earliest
 pub mod Least
