@@ -1,11 +1,13 @@
 -- What is so of a made file that is run.
-use Rattle.std.proofs.Common.{◌≡◌, ◌≤◌, ◌-◌, ℕ, List, length, take, ap, ◌∙◌, subst, arith, Ok, Err}
+use Rattle.std.proofs.Common.{◌≡◌, ◌≤◌, ◌-◌, ℕ, List, length, take, ap, ◌∙◌, subst, arith, Result, Ok, Err, Vec, Global}
 use Rattle.std.proofs.Math.Seq.{take-length}
-use Rattle.std.specs.Prelude.{◌<◌, ◌^◌, slice_range}
+use Rattle.std.specs.Prelude.{◌<◌, ◌^◌, slice_range, IfOk}
+use Rattle.unix_names.specs.declared.NoMemory.{NoMemory}
 use Rattle.byte_ends.specs.Text.{lines}
 use Rattle.unix_calls.specs.declared.World.{World}
 use Rattle.script_words.specs.declared.faults.Fault.{Fault}
 use Rattle.script_reader.specs.Files.{read_part}
+use Rattle.script_laws.proofs.Exact.{read_is_file}
 use Rattle.load_maker.specs.Made.{made}
 use Rattle.load_laws.specs.Worlds.{made_world}
 use Rattle.load_laws.proofs.Files.{made_valid}
@@ -43,8 +45,11 @@ can_load seed size world w e =
     let valid = made_valid seed 1 size (omega arith) (omega arith) w.some w.few in
     subst (λ (v : World). CanRun v load_turns) (read_is seed size world w e) (record { valid = valid.0; one_node = valid.1; few_turns = few })
 
-pub loads_made : (seed size : ℕ) (world : World) (text : List ℕ) → read_part 1 (lines (made seed 1 size)) ≡ Ok world → text ≡ load_text world (run world load_turns) → Loads seed size text
-loads_made seed size world text reads writes = record { world = world; reads = reads; writes = writes }
+-- the text of the run is that of the load
+pub loads_text : (seed size : ℕ) (world : World) (r : Result (Vec ℕ Global) NoMemory) → read_part 1 (lines (made seed 1 size)) ≡ Ok world
+    → IfOk r (λ text. text.items ≡ load_text world (run world load_turns)) → IfOk r (λ text. Loads seed size text.items)
+loads_text seed size world (Ok text) reads writes = record { world = world; reads = read_is_file 1 (lines (made seed 1 size)) world reads; writes = writes }
+loads_text seed size world (Err e) reads writes = tt
 
 no_less : (n : ℕ) → n - 0 ≡ n
 no_less n = omega arith

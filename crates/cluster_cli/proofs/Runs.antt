@@ -38,7 +38,8 @@ use Rattle.cluster_cli.specs.Replay.{run_text, Runs}
 use Rattle.cluster_cli.specs.Ends.{input_limit}
 use Rattle.cluster_laws.specs.Laws.{CanRun}
 use Rattle.cluster_cli.specs.declared.input.Given.{Given}
-use Rattle.cluster_cli.specs.Input.{asks_many, is_many, many_nodes, meaning, with_schedule, with_turns, turns_given, refused_history, without_history, least, on_one_node, runnable, fault_text, Refuses}
+use Rattle.cluster_cli.specs.Found.{asks_many, is_many, many_nodes, meaning, with_schedule, with_turns, turns_given, refused_history, without_history, least, on_one_node, runnable}
+use Rattle.cluster_cli.specs.Input.{IsRun, Means}
 
 -- ---- one node
 some_none : (n : ℕ) → Some n ≡ None → ⊥
@@ -209,10 +210,6 @@ all_entries es h = λ k d lt. is_entry (slice_index_or es k d) (h k d lt)
 pub run_entries : (world : World) (turns : List Turn) → CanRun world turns → All IsEntry (run world turns).history
 run_entries world turns can = all_entries (run world turns).history (run_whole world turns can)
 
--- the world of an input can be run
-pub meaning_valid : (input : List ℕ) (g : Given) → meaning input ≡ Ok g → IsValid g.world
-meaning_valid input g e = (read_is_file 1 (world_lines (lines input)) g.world (given_ok (lines input) (read_part 1 (world_lines (lines input))) g e).0).valid
-
 -- ---- a word that asks for more than one node
 pub many_is : (word : List ℕ) (n : ℕ) → IsNumber word → n ≡ digits_value 10 word → is_many n ≡ (is_number word && is_many (digits_value 10 word))
 many_is word n h e = ap is_many e ∙ sym (ap (λ b. b && is_many (digits_value 10 word)) ((is_number-decides word).1 h))
@@ -259,16 +256,13 @@ schedule_first input short =
 pub history_first : (input : List ℕ) → length input ≤ input_limit → 2 + length (front_lines (lines input)) ≤ 2 ^ 31
 history_first input short = let front = front_few input short in omega (arith, front)
 
--- what is said of an input that is run, and of one with a fault
-pub runs_made : (input : List ℕ) (g : Given) (text : List ℕ) → runnable input ≡ Ok g → text ≡ run_text (run g.world g.turns) → Runs input text
-runs_made input g text reads writes = record {
+-- what is said of an input that is run
+pub runs_made : (input : List ℕ) (g : Given) (text : List ℕ) → IsRun input g → CanRun g.world g.turns → text ≡ run_text (run g.world g.turns) → Runs input text
+runs_made input g text reads can writes = record {
   given = g;
   reads = reads;
-  legal = run_legal g.world g.turns (can_run input g reads);
-  follows = run_follows g.world g.turns (can_run input g reads);
-  finished = quiet_finished g.world g.turns (can_run input g reads);
+  legal = run_legal g.world g.turns can;
+  follows = run_follows g.world g.turns can;
+  finished = quiet_finished g.world g.turns can;
   writes = writes;
 }
-
-pub refuses_made : (reading : List ℕ → Result Given Fault) (input : List ℕ) (fault : Fault) (text : List ℕ) → reading input ≡ Err fault → text ≡ fault_text fault → Refuses reading input text
-refuses_made reading input fault text refused writes = record { fault = fault; refused = refused; writes = writes }

@@ -14,7 +14,7 @@ use Rattle.cluster_cli.specs.declared.status.Status.{Status}
 use Rattle.cluster_cli.specs.declared.status.Status.TheVariants.{Done, BadFile, Illegal}
 use Rattle.cluster_cli.specs.declared.input.Given.{Given}
 use Rattle.cluster_cli.specs.Ends.{Texts}
-use Rattle.cluster_cli.specs.Input.{meaning, Refuses}
+use Rattle.cluster_cli.specs.Input.{schedule_first, Means, IsFault, Refuses}
 
 -- the entries of a history part; without one there are none
 abbrev pub HasHistory : Option Lines → List Entry → Type 0
@@ -50,7 +50,7 @@ IsVerdict world entries _ output = ⊥
 pub record Judges (status : Status) (input output : List ℕ) : Type 0 where
   pub given : Given
   pub entries : List Entry
-  pub reads : meaning input ≡ Ok given
+  pub reads : Means input given
   pub history : HasHistory (history_lines (lines input)) entries
   pub verdict : IsVerdict given.world entries status output
 
@@ -58,7 +58,7 @@ pub record Judges (status : Status) (input output : List ℕ) : Type 0 where
 pub record FindsBadLine (input output : List ℕ) : Type 0 where
   pub given : Given
   pub line : ℕ
-  pub reads : meaning input ≡ Ok given
+  pub reads : Means input given
   pub bad : HasBadLine (history_lines (lines input)) (2 + length (front_lines (lines input))) line
   pub writes : output ≡ bad_line_text line
 
@@ -66,5 +66,5 @@ pub record FindsBadLine (input output : List ℕ) : Type 0 where
 abbrev pub Audits : Texts
 Audits Done input output = Judges Done input output
 Audits Illegal input output = Judges Illegal input output ⊎ FindsBadLine input output
-Audits BadFile input output = Refuses meaning input output
+Audits BadFile input output = Refuses IsFault input output
 Audits _ input output = ⊥

@@ -1,81 +1,77 @@
--- What an input means to the commands that read one.
-use Rattle.std.specs.Prelude.{◌≡◌, ℕ, ◌+◌, Bool, false, ◌&&◌, nat_lt, nat_le, if◌then◌else◌, List, [], ◌∷◌, ◌++◌, length, map, codes, Option, Some, None, Result, Ok, Err}
+-- What an input means to the commands that read one, and what is wrong with it.
+use Rattle.std.specs.Prelude.{◌≡◌, ◌⊎◌, ℕ, ◌+◌, ◌<◌, ◌≤◌, List, ◌++◌, length, map, codes, Option, Some, None, Ok, Err}
 use Rattle.std.specs.Fmt.{decimal}
-use Rattle.std.specs.Str.Parse.{digits_value}
 use Rattle.byte_ends.specs.Text.{lines, words}
-use Rattle.unix_calls.specs.declared.Turn.{Turn}
-use Rattle.unix_calls.specs.declared.Turn.TheVariants.{Auto}
 use Rattle.unix_calls.specs.declared.World.{World}
 use Rattle.file_parts.specs.Parts.{Lines, world_lines, front_lines, schedule_lines, history_lines}
-use Rattle.script_words.specs.declared.faults.Fault.{Fault}
-use Rattle.script_words.specs.declared.faults.Kind.TheVariants.{UnknownWord}
+use Rattle.script_words.specs.declared.Fault.{Fault}
+use Rattle.script_words.specs.declared.Kind.TheVariants.{UnknownWord}
 use Rattle.script_words.specs.Kinds.{name_of}
-use Rattle.script_words.specs.Words.{Row, is_same, is_number}
-use Rattle.script_reader.specs.Files.{fault_at, read_part}
-use Rattle.run_text.specs.Schedule.{schedule}
+use Rattle.script_reader.specs.Files.{fault_at}
+use Rattle.script_laws.specs.Grammar.{IsFile}
+use Rattle.fault_laws.specs.Told.{IsLeastFault}
 use Rattle.cluster_cli.specs.declared.input.Given.{Given}
+use Rattle.cluster_cli.specs.Found.{turns_given, many_nodes}
 
 -- ---- the world and the schedule
--- the turns of a schedule part, whose first line has this number, or without one 200,000 by the rule of `auto`
-abbrev pub turns_given : ℕ → ℕ → Option Lines → Result (List Turn) Fault
-turns_given nodes number None = Ok (Auto 200000 ∷ [])
-turns_given nodes number (Some ls) = schedule nodes number ls
+-- the number of the first line behind the world part and its dividing line
+abbrev pub schedule_first : List ℕ → ℕ
+schedule_first input = 2 + length (world_lines (lines input))
 
-abbrev pub with_turns : World → Result (List Turn) Fault → Result Given Fault
-with_turns world (Ok turns) = Ok (record { world = world; turns = turns })
-with_turns world (Err fault) = Err fault
+-- the world that the world part spells by the grammar, and the turns of the schedule
+pub record Means (input : List ℕ) (given : Given) : Type 0 where
+  pub world : IsFile (world_lines (lines input)) given.world
+  pub turns : turns_given given.world.nodes (schedule_first input) (schedule_lines (lines input)) ≡ Ok given.turns
 
-abbrev pub with_schedule : Lines → Result World Fault → Result Given Fault
-with_schedule ls (Ok world) = with_turns world (turns_given world.nodes (2 + length (world_lines ls)) (schedule_lines ls))
-with_schedule ls (Err fault) = Err fault
+-- a fault of the schedule behind a world
+pub record IsScheduleFault (input : List ℕ) (fault : Fault) : Type 0 where
+  pub world : World
+  pub spelled : IsFile (world_lines (lines input)) world
+  pub told : turns_given world.nodes (schedule_first input) (schedule_lines (lines input)) ≡ Err fault
 
--- the world and the schedule of an input, or its least fault
-abbrev pub meaning : List ℕ → Result Given Fault
-meaning input = with_schedule (lines input) (read_part 1 (world_lines (lines input)))
+-- the least fault of the world part, or else that of the schedule
+abbrev pub IsFault : List ℕ → Fault → Type 0
+IsFault input fault = IsLeastFault 1 (world_lines (lines input)) fault ⊎ IsScheduleFault input fault
 
 -- ---- what is run, as yet on one node
--- the dividing line of a history is a fault
-abbrev pub refused_history : ℕ → Given → Option Lines → Result Given Fault
-refused_history number g None = Ok g
-refused_history number g (Some history) = Err (fault_at number UnknownWord)
+-- whether some line of the world part asks for more than one node, and which is the first
+abbrev pub asking_line : List ℕ → Option ℕ
+asking_line input = many_nodes 1 (map words (world_lines (lines input)))
 
--- a history is no part of what is run
-abbrev pub without_history : Lines → Result Given Fault → Result Given Fault
-without_history ls (Ok g) = refused_history (1 + length (front_lines ls)) g (history_lines ls)
-without_history ls (Err fault) = Err fault
+-- an input that is run: it has no history, and no line asks for more than one node
+pub record IsRun (input : List ℕ) (given : Given) : Type 0 where
+  pub means : Means input given
+  pub no_history : history_lines (lines input) ≡ None
+  pub one_node : asking_line input ≡ None
 
-abbrev pub is_many : ℕ → Bool
-is_many n = nat_lt 1 n && nat_le n 64
+-- the line that divides off a history is a fault behind a world and a schedule
+pub record IsHistoryFault (input : List ℕ) (fault : Fault) : Type 0 where
+  pub given : Given
+  pub means : Means input given
+  pub history : Lines
+  pub there : history_lines (lines input) ≡ Some history
+  pub is : fault ≡ fault_at (1 + length (front_lines (lines input))) UnknownWord
 
--- the line of a cluster of more than one node
-abbrev pub asks_many : Row → Bool
-asks_many (word ∷ number ∷ []) = is_same word (codes "cluster") && (is_number number && is_many (digits_value 10 number))
-asks_many _ = false
+abbrev pub IsFaultOfRun : List ℕ → Fault → Type 0
+IsFaultOfRun input fault = IsFault input fault ⊎ IsHistoryFault input fault
 
--- the number of the first such line
-abbrev pub many_nodes : ℕ → List Row → Option ℕ
-many_nodes number [] = None
-many_nodes number (row ∷ rows) = if asks_many row then Some number else many_nodes (number + 1) rows
+-- the lesser of such a fault and a line that asks for more than one node
+abbrev pub IsLesser : Option ℕ → List ℕ → Fault → Type 0
+IsLesser None input fault = IsFaultOfRun input fault
+IsLesser (Some number) input fault =
+    (IsFaultOfRun input fault × (fault.line < number))
+    ⊎ ((fault ≡ fault_at number UnknownWord) × ((other : Fault) → IsFaultOfRun input other → number ≤ other.line))
 
-abbrev pub least : ℕ → Fault → Fault
-least number fault = if nat_lt fault.line number then fault else fault_at number UnknownWord
-
--- a line that asks for more than one node is a fault beside those that there are
-abbrev pub on_one_node : Option ℕ → Result Given Fault → Result Given Fault
-on_one_node None found = found
-on_one_node (Some number) (Err fault) = Err (least number fault)
-on_one_node (Some number) (Ok g) = Err (fault_at number UnknownWord)
-
--- the world and the schedule of an input that is to be run, or its least fault
-abbrev pub runnable : List ℕ → Result Given Fault
-runnable input = on_one_node (many_nodes 1 (map words (world_lines (lines input)))) (without_history (lines input) (meaning input))
+-- the least fault of an input that is to be run
+abbrev pub IsRefused : List ℕ → Fault → Type 0
+IsRefused input fault = IsLesser (asking_line input) input fault
 
 -- ---- what is said of a fault
 abbrev pub fault_text : Fault → List ℕ
 fault_text fault = codes "bad file: line " ++ (decimal fault.line ++ (codes ": " ++ (name_of fault.kind ++ codes "\n")))
 
--- an input with a fault, by a reading, and the text that says so
-pub record Refuses (reading : List ℕ → Result Given Fault) (input output : List ℕ) : Type 0 where
+-- an input with a fault, and the text that says so
+pub record Refuses (Has : List ℕ → Fault → Type 0) (input output : List ℕ) : Type 0 where
   pub fault : Fault
-  pub refused : reading input ≡ Err fault
+  pub refused : Has input fault
   pub writes : output ≡ fault_text fault

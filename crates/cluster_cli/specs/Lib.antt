@@ -2,6 +2,7 @@ pub mod Status
 pub mod Ends
 pub mod Commands
 pub mod Reading
+pub mod Found
 pub mod Input
 pub mod Replay
 pub mod Audit

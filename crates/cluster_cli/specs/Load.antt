@@ -9,7 +9,7 @@ use Rattle.unix_calls.specs.declared.Entry.TheVariants.{Called}
 use Rattle.unix_calls.specs.declared.Turn.{Turn}
 use Rattle.unix_calls.specs.declared.Turn.TheVariants.{Auto}
 use Rattle.unix_calls.specs.declared.World.{World}
-use Rattle.script_reader.specs.Files.{read_part}
+use Rattle.script_laws.specs.Grammar.{IsFile}
 use Rattle.load_maker.specs.Made.{made}
 use Rattle.run_text.specs.History.{last_line}
 use Rattle.cluster_core.specs.declared.played.Played.{Played}
@@ -47,5 +47,5 @@ load_text world p = counts_text (record {
 -- the text of a load: that of the run of its file's world
 pub record Loads (seed size : ℕ) (output : List ℕ) : Type 0 where
   pub world : World
-  pub reads : read_part 1 (lines (made seed 1 size)) ≡ Ok world
+  pub reads : IsFile (lines (made seed 1 size)) world
   pub writes : output ≡ load_text world (run world load_turns)

@@ -10,7 +10,7 @@ use Rattle.audit_core.specs.Finished.{IsFinished}
 use Rattle.cluster_cli.specs.declared.status.Status.TheVariants.{Done, BadFile}
 use Rattle.cluster_cli.specs.Ends.{Texts}
 use Rattle.cluster_cli.specs.declared.input.Given.{Given}
-use Rattle.cluster_cli.specs.Input.{runnable, Refuses}
+use Rattle.cluster_cli.specs.Input.{IsRun, IsRefused, Refuses}
 
 -- whether a queue is empty
 abbrev pub is_empty : List Image → Bool
@@ -24,7 +24,7 @@ run_text p = text p.history (is_empty p.machine.ready)
 -- an input that is run: its history is that of the turns of its schedule, legal for the one kernel and in its scripts' order, and the text is the run's
 pub record Runs (input output : List ℕ) : Type 0 where
   pub given : Given
-  pub reads : runnable input ≡ Ok given
+  pub reads : IsRun input given
   pub legal : IsLegal given.world (run given.world given.turns).history
   pub follows : Follows given.world (run given.world given.turns).history
   -- `quiet` is said only where the kernel has nothing left to do
@@ -34,5 +34,5 @@ pub record Runs (input output : List ℕ) : Type 0 where
 -- the text of the run, or what is said of the least fault
 abbrev pub Replays : Texts
 Replays Done input output = Runs input output
-Replays BadFile input output = Refuses runnable input output
+Replays BadFile input output = Refuses IsRefused input output
 Replays _ input output = ⊥

@@ -3,10 +3,9 @@ ghost use Rattle.std.specs.Prelude.{◌≡◌, ◌≤◌, ◌+◌, ℕ, IfOk, Ok
 ghost use Rattle.cluster_core.specs.Run.{run};
 ghost use Rattle.cluster_laws.specs.Laws.{CanRun};
 ghost use Rattle.cluster_cli.specs.Ends.{HasText, input_limit};
-ghost use Rattle.cluster_cli.specs.Input.{fault_text};
+ghost use Rattle.cluster_cli.specs.Input.{fault_text, Means};
 ghost use Rattle.cluster_cli.specs.Replay.{run_text, Replays};
 ghost use Rattle.cluster_cli.specs.Reading.{AreParts};
-ghost use Rattle.cluster_cli.specs.Input.{meaning};
 ghost use Rattle.cluster_cli.specs.Audit.{HasHistory, HasBadLine, bad_line_text, illegal_text, rule_text, IsVerdict, Audits};
 ghost use Rattle.byte_ends.specs.Text.{lines};
 ghost use Rattle.file_parts.specs.Parts.{IsPartOf, front_lines, history_lines};
@@ -102,11 +101,11 @@ pub fn audit(alloc: Global, input: &[u8]) -> Result<Answer, NoMemory>
 }
 
 // What is said of the history of an input that has this meaning.
-#[tactic(auto, using(crate::proofs::Runs::meaning_valid, crate::proofs::Histories::has_names))]
+#[tactic(auto, using(crate::proofs::Histories::has_names))]
 fn heard(alloc: Global, input: &[u8], parts: &Parts, given: &Given) -> Result<Answer, NoMemory>
     requires short { length input.now ≤ input_limit }
     requires parts { AreParts input.now parts.now }
-    requires reads { meaning input.now ≡ Ok given.now }
+    requires means { Means input.now given.now }
     ensures has_text { IfOk result (λ a. HasText a.status) }
     ensures text { IfOk result (λ a. Audits a.status input.now a.text.items) }
 {

@@ -9,7 +9,7 @@ ghost use Rattle.script_words.specs.Words.{is_same, is_number};
 ghost use Rattle.script_reader.specs.Files.{fault_at};
 ghost use Rattle.cluster_cli.specs.Reading.{IsReading, AreParts};
 ghost use Rattle.cluster_cli.specs.Ends.{input_limit};
-ghost use Rattle.cluster_cli.specs.Input as spec;
+ghost use Rattle.cluster_cli.specs.Found as spec;
 
 use byte_ends::{next_line, number_at, words_of};
 use file_parts::{Parts, Span, split};

@@ -25,7 +25,6 @@ pub mod Tabled
 pub mod Grammatical
 pub mod Built
 pub mod Exact
-pub mod Least
 pub mod Masks
 pub mod Chosen
 pub mod Spelled

@@ -7,9 +7,9 @@ use Rattle.std.proofs.lemmas.Bool.{leb-true, and_parts, eqb-true, or_parts}
 use Rattle.std.proofs.lemmas.List.Elements.{All-nil, All-cons}
 use Rattle.unix_names.specs.declared.Signal.{Signal}
 use Rattle.unix_names.specs.declared.Act.TheVariants.{Default, Ignore, Catch}
-use Rattle.unix_names.specs.Signals.{number_of, word_of, all_signals, signal_of, signal_named}
+use Rattle.unix_names.specs.Signals.{number_of, word_of, signal_of, signal_named}
 use Rattle.unix_names.specs.Sets.{added}
-use Rattle.unix_names.proofs.SignalLaws.{find-passes, number_of-signal_of, word_of-signal_named}
+use Rattle.unix_names.proofs.SignalLaws.{number_of-signal_of, word_of-signal_named}
 use Rattle.unix_calls.specs.declared.Arg.{Arg}
 use Rattle.unix_calls.specs.declared.Arg.TheVariants.{Zero, One, Nobody, Own, Maker, Var}
 use Rattle.script_words.specs.declared.faults.Kind.{Kind}

@@ -1,7 +1,7 @@
 //! What is true of files and of the worlds that they mean by the definitions, as the contracts of functions without a body.
 #![tactic(auto)]
 
-ghost use Rattle.script_laws.specs.Worlds.{ReadIsValid, ReadIsWritable, FileIsRead, ReadIsFile, SpellsOrFails, FaultIsLeast, WrittenIsRead};
+ghost use Rattle.script_laws.specs.Worlds.{ReadIsValid, ReadIsWritable, FileIsRead, ReadIsFile, WrittenIsRead};
 
 /// Each world that a part of a file means can be run.
 pub fn read_is_valid()
@@ -17,16 +17,6 @@ pub fn read_is_writable()
 pub fn grammar_is_read()
     ensures read { FileIsRead }
     ensures spelled { ReadIsFile }
-{}
-
-/// Either a part of a file spells one world, and has no fault; or it has one fault, and is none of the grammar.
-pub fn part_spells_or_fails()
-    ensures { SpellsOrFails }
-{}
-
-/// No line before that of a part's fault has a fault of its own.
-pub fn fault_is_least()
-    ensures { FaultIsLeast }
 {}
 
 /// A world that files describe is read back from its file as itself.

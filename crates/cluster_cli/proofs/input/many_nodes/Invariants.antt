@@ -1,6 +1,6 @@
 use Rattle.std.proofs.Common.{◌≡◌, ◌+◌, ◌-◌, ◌≤◌, length, drop, map}
 use Rattle.byte_ends.specs.Text.{lines, words}
-use Rattle.cluster_cli.specs.Input.{many_nodes}
+use Rattle.cluster_cli.specs.Found.{many_nodes}
 use Rattle.cluster_cli.proofs.input.many_nodes.Given as goal
 
 abbrev pub invariant-loop-from : goal.invariant-loop-from
