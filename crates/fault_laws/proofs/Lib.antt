@@ -3,6 +3,10 @@ pub mod Knows
 pub mod Slots
 pub mod Readings
 pub mod Forms
+pub mod Shapes
+pub mod Statements
+pub mod Lines
+pub mod Limits
 pub mod Rows
 pub mod Around
 pub mod Counted
