@@ -4,6 +4,10 @@ pub mod Words
 pub mod Slots
 pub mod Readings
 pub mod Forms
+pub mod Shapes
+pub mod Statements
+pub mod Lines
+pub mod Limits
 pub mod Rows
 pub mod Positions
 pub mod Places
