@@ -14,7 +14,7 @@ use Rattle.script_laws.specs.Grammar.{IsFile}
 use Rattle.script_laws.proofs.Parts.{names_of, told_of, world_of, IsWhole, whole}
 use Rattle.script_laws.proofs.Whole.{file_read}
 use Rattle.script_laws.proofs.Exact.{read_is_file}
-use Rattle.fault_laws.specs.Context.{is_begun, is_open, start_names}
+use Rattle.fault_laws.specs.Context.{is_begun, start_names}
 use Rattle.fault_laws.specs.Faults.{rank}
 use Rattle.fault_laws.specs.Told.{IsNotBefore, IsLeastFault, HasNoFault, LeastIsTold, SpellsOne, HasLeastFault, SpellsOrFails}
 use Rattle.fault_laws.proofs.Around.{knows_end}

@@ -6,12 +6,11 @@ use Rattle.std.proofs.lemmas.Bool.{ltb-true, ltb-false, leb-true, leb-false, and
 use Rattle.byte_ends.specs.Text.{IsNumber}
 use Rattle.script_words.specs.declared.faults.Kind.{Kind}
 use Rattle.script_words.specs.declared.faults.Kind.TheVariants.{UnknownWord, TooManyNodes, DoubleName}
-use Rattle.script_words.specs.Words.{Row, ◌>>=◌, word_at, name, has_name_form, number, ended, node}
+use Rattle.script_words.specs.Words.{Row, ◌>>=◌, word_at, name, has_name_form, number, ended}
 use Rattle.script_reader.specs.declared.names.Names.{Names}
 use Rattle.script_reader.specs.declared.places.Place.{Place}
 use Rattle.script_reader.specs.declared.lines.Item.{Item}
 use Rattle.script_reader.specs.declared.lines.Item.TheVariants as item
-use Rattle.script_reader.specs.Statements.{script}
 use Rattle.script_reader.specs.Lines.{is_numbered, start_variable, user, earlier_start, joined, start_words}
 use Rattle.script_reader.specs.Files.{begins_with}
 use Rattle.script_laws.specs.Grammar.{IsName}

@@ -1,5 +1,5 @@
 -- What stands around a line of a part: by the words of all its lines, or of those before the line.
-use Rattle.std.specs.Prelude.{ℕ, ◌+◌, ◌-◌, Bool, true, false, not, if◌then◌else◌, List, [], ◌∷◌, ◌++◌, length, take, fold, find, codes, Option, Some, None, is_some}
+use Rattle.std.specs.Prelude.{ℕ, ◌+◌, ◌-◌, Bool, true, false, not, if◌then◌else◌, List, ◌++◌, length, take, fold, find, codes, Option, Some, None, is_some}
 use Rattle.std.specs.List.{list_any}
 use Rattle.std.specs.Str.Parse.{digits_value}
 use Rattle.script_words.specs.Words.{Word, Row, word_at, is_skipped}
