@@ -12,7 +12,7 @@ use crate::lines::{place_after, read_line};
 use crate::names::Names;
 use crate::places::{FIRST_PLACE, Place};
 use crate::starts::{Starts, bad};
-use byte_ends::words_of;
+use byte_ends::take_words;
 use file_parts::Span;
 use script_words::{Kind, ReadRefusal, is_utf8};
 use std::alloc::Global;
@@ -77,8 +77,9 @@ fn scripts_of<'a>(
 {
     let mut bodies = Bodies::new(alloc);
     let mut place = FIRST_PLACE;
+    let mut words = Vec::new(alloc);
     for line in lines {
-        let words = words_of(alloc, *line)?;
+        take_words(&mut words, *line)?;
         let read = read_line(names, &place, *line, &words);
         bodies.take_line(alloc, &words, &read)?;
         place = place_after(place, &words, read);
@@ -115,8 +116,9 @@ fn judged<'a>(
     let mut starts = Starts::new(alloc);
     let mut place = FIRST_PLACE;
     let mut number = first_line;
+    let mut words = Vec::new(alloc);
     for line in lines {
-        let words = words_of(alloc, *line)?;
+        take_words(&mut words, *line)?;
         let read = read_line(names, &place, *line, &words);
         starts.take_line(works, number, &read)?;
         place = place_after(place, &words, read);

@@ -4,7 +4,7 @@ ghost use Rattle.byte_ends.specs.Text.{lines as lines_in, words as words_in};
 ghost use Rattle.script_reader.specs.Files.{begins_with, words_behind, numbered, listed, gather as gathered};
 
 use crate::names::{Names, Numbers};
-use byte_ends::{next_line, words_of};
+use byte_ends::{next_line, take_words};
 use script_words::{is_word, word_at};
 use std::alloc::Global;
 use unix_names::NoMemory;
@@ -77,8 +77,9 @@ pub fn gather<'a>(alloc: Global, lines: &[&'a [u8]]) -> Result<Names<'a>, NoMemo
     let mut scripts = Vec::new(alloc);
     let mut forks = Vec::new(alloc);
     let mut starts = Vec::new(alloc);
+    let mut words = Vec::new(alloc);
     for line in lines {
-        let words = words_of(alloc, *line)?;
+        take_words(&mut words, *line)?;
         collect(&mut scripts, &words, "script", 1)?;
         collect(&mut forks, &words, "fork", 1)?;
         collect(&mut starts, &words, "start", 3)?;
