@@ -5,17 +5,17 @@ ghost use Rattle.file_parts.specs.Parts.{IsPart, IsPartOf, world_lines, front_li
 ghost use Rattle.std.specs.Prelude.{Result, ◌&&◌, ◌+◌};
 ghost use Rattle.std.specs.Str.Parse.{digits_value};
 ghost use Rattle.script_words.specs.declared.faults.Fault.{Fault};
-ghost use Rattle.script_words.specs.Words.{is_same, is_number};
+ghost use Rattle.script_words.specs.Words.{is_number};
 ghost use Rattle.script_reader.specs.Files.{fault_at};
 ghost use Rattle.cluster_cli.specs.Reading.{IsReading, AreParts};
 ghost use Rattle.cluster_cli.specs.Ends.{input_limit};
 ghost use Rattle.cluster_cli.specs.Found as spec;
 
-use byte_ends::{next_line, number_at, words_of};
+use byte_ends::{next_line, number_at, take_words};
 use file_parts::{Parts, Span, split};
 use run_text::read_schedule;
 use script_reader::read_file;
-use script_words::{Fault, Kind, ReadRefusal};
+use script_words::{Fault, Kind, ReadRefusal, is_word};
 use std::alloc::Global;
 use unix_calls::{Turn, World};
 use unix_names::{NoMemory, Seq};
@@ -120,8 +120,9 @@ fn many_nodes(alloc: Global, input: &[u8], part: Span) -> Result<Option<u32>, No
     let text = &input[part.from..part.to];
     let mut at = 0;
     let mut line = part.first_line;
+    let mut words = Vec::new(alloc);
     while let Some((from, to, next)) = next_line(text, at) {
-        let words = words_of(alloc, &text[from..to])?;
+        take_words(&mut words, &text[from..to])?;
         if asks_many(&words) {
             return Ok(Some(line));
         }
@@ -138,13 +139,6 @@ fn asks_many(words: &[&[u8]]) -> bool
         [word, number] => is_word(word, "cluster") && names_many(number),
         _ => false,
     }
-}
-
-#[tactic(auto, unfolding(script_words::specs::Words::is_same))]
-fn is_word(word: &[u8], text: &str) -> bool
-    ensures { result ≡ is_same word.now text.now }
-{
-    word == text.as_bytes()
 }
 
 // Whether a word is the number of more than one node.

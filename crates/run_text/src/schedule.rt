@@ -5,7 +5,7 @@ ghost use Rattle.byte_ends.specs.Text.{lines, words as words_in};
 ghost use Rattle.script_words.specs.declared.Fault.{Fault};
 ghost use Rattle.run_text.specs.Schedule as spec;
 
-use byte_ends::{next_line, words_of};
+use byte_ends::{next_line, take_words};
 use file_parts::Span;
 use script_words::{
     Fault, Kind, ReadRefusal, ended, is_skipped, is_utf8, is_word, node, number, word_at,
@@ -41,8 +41,9 @@ pub fn read_schedule(
     let mut count = 0;
     let mut line = part.first_line;
     let mut at = 0;
+    let mut words = Vec::new(alloc);
     while let Some((from, to, next)) = next_line(text, at) {
-        let words = words_of(alloc, &text[from..to])?;
+        take_words(&mut words, &text[from..to])?;
         match read_turn(nodes, count, &text[from..to], &words) {
             Err(kind) => return Err(ReadRefusal::Bad(Fault { line, kind })),
             Ok(None) => {}
