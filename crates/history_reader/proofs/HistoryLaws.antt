@@ -7,7 +7,7 @@ use Rattle.unix_calls.specs.declared.Entry.{Entry}
 use Rattle.file_parts.specs.Parts.{Lines}
 use Rattle.history_reader.specs.Reading.{Means, Fits, AllFit, is_nothing, is_last, is_schedule, Ends, OnLine, IsHistory, IsFirstBad, IsEndBad}
 
-yes : (b : Bool) (P Q : Type 0) → b ≡ true → P → MatchBool b P Q
+pub yes : (b : Bool) (P Q : Type 0) → b ≡ true → P → MatchBool b P Q
 yes true P Q e p = p
 yes false P Q e p = absurd (cc)
 
@@ -15,11 +15,11 @@ pub no : (b : Bool) (P Q : Type 0) → b ≡ false → Q → MatchBool b P Q
 no true P Q e q = absurd (cc)
 no false P Q e q = q
 
-from_yes : (b : Bool) (P Q : Type 0) → b ≡ true → MatchBool b P Q → P
+pub from_yes : (b : Bool) (P Q : Type 0) → b ≡ true → MatchBool b P Q → P
 from_yes true P Q e h = h
 from_yes false P Q e h = absurd (cc)
 
-from_no : (b : Bool) (P Q : Type 0) → b ≡ false → MatchBool b P Q → Q
+pub from_no : (b : Bool) (P Q : Type 0) → b ≡ false → MatchBool b P Q → Q
 from_no true P Q e h = absurd (cc)
 from_no false P Q e h = h
 
@@ -86,14 +86,14 @@ front-history (l ∷ f) es rest more h k =
           (on_line_more l (Front f) (IsHistory (f ++ rest)) es more (λ xs r. front-history f xs rest more r k) p.2)))
     ]
 
--- entries that a history has behind its front
-record Behind (rest : Lines) : Type 0 where
-  more : List Entry
-  history : IsHistory rest more
-  fit : AllFit more
+-- lines are a history of some entries that fit
+pub record SomeHistory (ls : Lines) : Type 0 where
+  pub entries : List Entry
+  pub fit : AllFit entries
+  pub history : IsHistory ls entries
 
-front-only : (f : Lines) (es : List Entry) (rest : Lines) (all : List Entry) → Front f es → IsHistory (f ++ rest) all → AllFit all → Behind rest
-front-only [] es rest all h k fit = record { more = all; history = k; fit = fit }
+front-only : (f : Lines) (es : List Entry) (rest : Lines) (all : List Entry) → Front f es → IsHistory (f ++ rest) all → AllFit all → SomeHistory rest
+front-only [] es rest all h k fit = record { entries = all; fit = fit; history = k }
 front-only (l ∷ f) es rest all h k fit =
     let P : Type 0 = Front f es in
     let Q : Type 0 = (is_schedule l ≡ false) × (is_last l ≡ false) × OnLine l (Front f) es in
@@ -105,17 +105,17 @@ front-only (l ∷ f) es rest all h k fit =
       | inl n ↦ front-only f es rest all (from_yes (is_nothing l) P Q n h) (from_yes (is_nothing l) A B n k) fit
       | inr n ↦ let p = from_no (is_nothing l) P Q n h in
           let d = from_no (is_last l) ((all ≡ []) × Ends (f ++ rest)) D p.1 (from_no (is_schedule l) (all ≡ []) C p.0 (from_no (is_nothing l) A B n k)) in
-          on_line_both l (Front f) (IsHistory (f ++ rest)) (Behind rest) es all (λ xs ys r s t. front-only f xs rest ys r s t) p.2 d fit
+          on_line_both l (Front f) (IsHistory (f ++ rest)) (SomeHistory rest) es all (λ xs ys r s t. front-only f xs rest ys r s t) p.2 d fit
     ]
 
-schedule-history : (l : List ℕ) (next : Lines) → is_nothing l ≡ false → is_schedule l ≡ true → IsHistory (l ∷ next) []
+pub schedule-history : (l : List ℕ) (next : Lines) → is_nothing l ≡ false → is_schedule l ≡ true → IsHistory (l ∷ next) []
 schedule-history l next t s =
     let N : List Entry → Type 0 = λ xs. xs ≡ [] in
     let D : Type 0 = OnLine l (IsHistory next) [] in
     let C : Type 0 = MatchBool (is_last l) (N [] × Ends next) D in
     no (is_nothing l) (IsHistory next []) (MatchBool (is_schedule l) (N []) C) t (yes (is_schedule l) (N []) C s refl)
 
-last-history : (l : List ℕ) (next : Lines) → is_nothing l ≡ false → is_schedule l ≡ false → is_last l ≡ true → Ends next → IsHistory (l ∷ next) []
+pub last-history : (l : List ℕ) (next : Lines) → is_nothing l ≡ false → is_schedule l ≡ false → is_last l ≡ true → Ends next → IsHistory (l ∷ next) []
 last-history l next t s q h =
     let N : List Entry → Type 0 = λ xs. xs ≡ [] in
     let D : Type 0 = OnLine l (IsHistory next) [] in
@@ -123,14 +123,14 @@ last-history l next t s q h =
     no (is_nothing l) (IsHistory next []) (MatchBool (is_schedule l) (N []) C) t (no (is_schedule l) (N []) C s (yes (is_last l) (N [] × Ends next) D q (refl, h)))
 
 -- a history that begins with the last line ends well
-last-ends : (l : List ℕ) (next : Lines) (xs : List Entry) → is_nothing l ≡ false → is_schedule l ≡ false → is_last l ≡ true → IsHistory (l ∷ next) xs → Ends next
+pub last-ends : (l : List ℕ) (next : Lines) (xs : List Entry) → is_nothing l ≡ false → is_schedule l ≡ false → is_last l ≡ true → IsHistory (l ∷ next) xs → Ends next
 last-ends l next xs t s q h =
     let D : Type 0 = OnLine l (IsHistory next) xs in
     let C : Type 0 = MatchBool (is_last l) ((xs ≡ []) × Ends next) D in
     (from_yes (is_last l) ((xs ≡ []) × Ends next) D q (from_no (is_schedule l) (xs ≡ []) C s (from_no (is_nothing l) (IsHistory next xs) (MatchBool (is_schedule l) (xs ≡ []) C) t h))).1
 
 -- a line that means nothing is no line of a history
-line-wrong : (l : List ℕ) (next : Lines) (xs : List Entry) → is_nothing l ≡ false → is_schedule l ≡ false → is_last l ≡ false → ((e : Entry) → Fits e → Means l e → ⊥)
+pub line-wrong : (l : List ℕ) (next : Lines) (xs : List Entry) → is_nothing l ≡ false → is_schedule l ≡ false → is_last l ≡ false → ((e : Entry) → Fits e → Means l e → ⊥)
     → IsHistory (l ∷ next) xs → AllFit xs → ⊥
 line-wrong l next xs t s q other h fit =
     let D : Type 0 = OnLine l (IsHistory next) xs in
@@ -144,15 +144,20 @@ line-wrong l next xs t s q other h fit =
 one-more : (l : List ℕ) (next : Lines) (n : ℕ) → take (n + 1) (l ∷ next) ≡ l ∷ take n next
 one-more l next n = rw add-one refl
 
+fit-more : (es : List Entry) (e : Entry) → AllFit es → Fits e → AllFit (es ++ e ∷ [])
+fit-more [] e h f = (f, tt)
+fit-more (x ∷ es) e h f = (h.0, fit-more es e h.1 f)
+
 -- how far a history has been read: what stands before is its front, with these entries
 pub record Reached (ls rest : Lines) (number line : ℕ) (es : List Entry) : Type 0 where
   pub front : Lines
   pub whole : ls ≡ front ++ rest
   pub count : line ≡ number + length front
   pub read : Front front es
+  pub fit : AllFit es
 
 pub reached-first : (ls : Lines) (number : ℕ) → Reached ls ls number number []
-reached-first ls number = record { front = []; whole = refl; count = omega arith; read = refl }
+reached-first ls number = record { front = []; whole = refl; count = omega arith; read = refl; fit = tt }
 
 module _ (ls rest : Lines) (number line : ℕ) (es : List Entry) (r : Reached ls rest number line es) where
   pub reached-end : rest ≡ [] → IsHistory ls es
@@ -172,10 +177,10 @@ module _ (ls rest : Lines) (number line : ℕ) (es : List Entry) (r : Reached ls
     counted = omega (arith, r.count, length-append r.front (l ∷ []))
 
     pub reached-nothing : is_nothing l ≡ true → Reached ls next number (line + 1) es
-    reached-nothing t = record { front = r.front ++ l ∷ []; whole = apart; count = counted; read = front-nothing r.front es l r.read t }
+    reached-nothing t = record { front = r.front ++ l ∷ []; whole = apart; count = counted; read = front-nothing r.front es l r.read t; fit = r.fit }
 
-    pub reached-entry : (e : Entry) → is_nothing l ≡ false → is_schedule l ≡ false → is_last l ≡ false → Means l e → Reached ls next number (line + 1) (es ++ e ∷ [])
-    reached-entry e t s q m = record { front = r.front ++ l ∷ []; whole = apart; count = counted; read = front-entry r.front es l e r.read t s q m }
+    pub reached-entry : (e : Entry) → Fits e → is_nothing l ≡ false → is_schedule l ≡ false → is_last l ≡ false → Means l e → Reached ls next number (line + 1) (es ++ e ∷ [])
+    reached-entry e f t s q m = record { front = r.front ++ l ∷ []; whole = apart; count = counted; read = front-entry r.front es l e r.read t s q m; fit = fit-more es e r.fit f }
 
     ended : IsHistory (l ∷ next) [] → IsHistory ls es
     ended h =
@@ -210,11 +215,11 @@ module _ (ls rest : Lines) (number line : ℕ) (es : List Entry) (r : Reached ls
           before = length r.front;
           place = r.count;
           within = less;
-          good = (es, subst G (sym (fine ∙ sym (append-nil r.front))) (good [] refl));
+          good = (es, r.fit, subst G (sym (fine ∙ sym (append-nil r.front))) (good [] refl));
           wrong = λ xs fit h.
               let W : Lines → Type 0 = λ ks. IsHistory ks xs in
               let b = front-only r.front es (l ∷ []) xs r.read (subst W (upto 1) h) fit in
-              line-wrong l [] b.more t s q other b.history b.fit;
+              line-wrong l [] b.entries t s q other b.history b.fit;
         }
 
     -- a line behind the last one that may not stand there
@@ -225,13 +230,13 @@ module _ (ls rest : Lines) (number line : ℕ) (es : List Entry) (r : Reached ls
           before = length r.front + (h.before + 1);
           place = omega (arith, h.place, r.count);
           within = omega (arith, h.within, ap length split, length-append r.front (l ∷ next));
-          good = (es, subst G (sym (upto (h.before + 1) ∙ ap (λ (ks : Lines). r.front ++ ks) (one-more l next h.before))) (good (l ∷ take h.before next) (last-history l (take h.before next) t s q h.good)));
+          good = (es, r.fit, subst G (sym (upto (h.before + 1) ∙ ap (λ (ks : Lines). r.front ++ ks) (one-more l next h.before))) (good (l ∷ take h.before next) (last-history l (take h.before next) t s q h.good)));
           wrong = λ xs fit k.
               let W : Lines → Type 0 = λ ks. IsHistory ks xs in
               let more : take (length r.front + (h.before + 1) + 1) ls ≡ r.front ++ l ∷ take (h.before + 1) next =
               ap (λ n. take n ls) (omega arith) ∙ upto (h.before + 1 + 1) ∙ ap (λ (ks : Lines). r.front ++ ks) (one-more l next (h.before + 1)) in
               let b = front-only r.front es (l ∷ take (h.before + 1) next) xs r.read (subst W more k) fit in
-              h.wrong (last-ends l (take (h.before + 1) next) b.more t s q b.history);
+              h.wrong (last-ends l (take (h.before + 1) next) b.entries t s q b.history);
         }
 
 -- ---- behind the last line

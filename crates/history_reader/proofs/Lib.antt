@@ -3,5 +3,6 @@ pub mod FitLaws
 pub mod HistoryLaws
 pub mod LooseLaws
 pub mod Meanings
+pub mod PartLaws
 pub mod Solid
 pub mod WrittenLaws

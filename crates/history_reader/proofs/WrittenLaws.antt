@@ -1,7 +1,7 @@
 -- a history that was written is one of its entries
-use Rattle.std.proofs.Common.{◌≡◌, ℕ, ◌+◌, ◌^◌, ◌<◌, Bool, true, false, ◌==◌, ◌&&◌, ◌||◌, List, [], ◌∷◌, ◌++◌, length, refl, ap, sym, subst, ◌∙◌, arith, append_assoc, codes}
-use Rattle.std.specs.Prelude.{All, MatchBool, IsTrue}
-use Rattle.std.specs.List.{list_all, flat_map}
+use Rattle.std.proofs.Common.{◌≡◌, ℕ, ◌^◌, ◌<◌, Bool, true, false, ◌&&◌, ◌||◌, List, [], ◌∷◌, ◌++◌, refl, ap, sym, subst, ◌∙◌, arith, append_assoc, codes}
+use Rattle.std.specs.Prelude.{All, MatchBool}
+use Rattle.std.specs.List.{flat_map}
 use Rattle.std.specs.Fmt.{decimal}
 use Rattle.std.specs.Str.Parse.{AllDigits}
 use Rattle.std.proofs.lemmas.Bool.{ne_eqb}
@@ -10,7 +10,6 @@ use Rattle.std.proofs.lemmas.Str.Parse.{digit_from_value}
 use Rattle.std.proofs.lemmas.List.Concat.{flat_map-cons}
 use Rattle.std.proofs.lemmas.List.Elements.{All-head, All-tail}
 use Rattle.byte_ends.specs.Text.{lines, words}
-use Rattle.unix_calls.specs.Calls.{EntryHasNames}
 use Rattle.unix_calls.specs.declared.Call.{Call}
 use Rattle.unix_calls.specs.declared.Call.TheVariants as calls
 use Rattle.unix_calls.specs.declared.Event.{Event}
@@ -23,7 +22,7 @@ use Rattle.text_laws.specs.Plain.{is_plain, are_plain}
 use Rattle.text_laws.proofs.Lines.{lines-newline}
 use Rattle.text_laws.proofs.Words.{words-spaced, line-spaced}
 use Rattle.run_text.specs.History.{spaced, line_of, call_words, reply_words, event_words, last_line, text, IsEntry}
-use Rattle.history_reader.specs.Reading.{entry_words, Means, Fits, AllFit, is_nothing, is_last, is_schedule, Ends, OnLine, IsHistory}
+use Rattle.history_reader.specs.Reading.{entry_words, Fits, AllFit, is_nothing, is_last, is_schedule, Ends, OnLine, IsHistory}
 use Rattle.history_reader.proofs.FitLaws.{plain-entry}
 use Rattle.history_reader.proofs.HistoryLaws.{no}
 

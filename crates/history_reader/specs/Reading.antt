@@ -91,7 +91,7 @@ pub record IsFirstBad (ls : Lines) (number bad : ℕ) : Type 0 where
   pub before : ℕ
   pub place : bad ≡ number + before
   pub within : before < length ls
-  pub good : (es : List Entry) × IsHistory (take before ls) es
+  pub good : (es : List Entry) × AllFit es × IsHistory (take before ls) es
   pub wrong : (es : List Entry) → AllFit es → IsHistory (take (before + 1) ls) es → ⊥
 
 -- the first bad line behind the last one, where the line behind that has this number

@@ -14,6 +14,7 @@ use unix_calls::{Call, Entry, Reply};
 pub fn entry_of(alloc: Global, line: &[u8], words: &[&[u8]]) -> Result<Option<Entry>, AllocError>
     requires { map (λ w. w.now) words.now ≡ words_in line.now }
     ensures found { IfOk result (λ o. IfSome o (Means line.now)) }
+    ensures fits { IfOk result (λ o. IfSome o Fits) }
     ensures none { IfOk result (λ o. IsNone o → (e : Entry) → Fits e → Means line.now e → ⊥) }
 {
     let entry = entry_in(words);

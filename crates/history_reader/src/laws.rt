@@ -4,6 +4,7 @@ ghost use Rattle.unix_calls.specs.declared.Entry.{Entry};
 ghost use Rattle.byte_ends.specs.Text.{lines};
 ghost use Rattle.run_text.specs.History.{IsEntry, text};
 ghost use Rattle.history_reader.specs.Reading.{Fits, AllFit, Means, IsHistory};
+ghost use Rattle.history_reader.specs.Laws.{MeansOrFails};
 
 /// A line means one entry at most.
 pub fn one_meaning()
@@ -13,4 +14,9 @@ pub fn one_meaning()
 /// The text that is written of some entries is a history of them.
 pub fn histories_read_back()
     ensures { (entries : List Entry) (is_quiet : Bool) → All IsEntry entries → AllFit entries → IsHistory (lines (text entries is_quiet)) entries }
+{}
+
+/// A part is a history of one list of entries, or has one first bad line, and never both.
+pub fn part_means_or_fails()
+    ensures { MeansOrFails }
 {}

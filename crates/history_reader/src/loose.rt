@@ -4,8 +4,8 @@ ghost use Rattle.script_words.specs.Words.{is_number};
 ghost use Rattle.history_reader.specs.Loose as spec;
 
 use crate::verbs::{Verb, verb_named};
-use script_words::{is_word, word_at};
 use byte_ends::number_at;
+use script_words::{is_word, word_at};
 use unix_calls::{Call, Entry, Event, Reply};
 use unix_names::{Act, Errno, Pid, SigSet, Signal, WaitStatus, number_of, signal_named};
 

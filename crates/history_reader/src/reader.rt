@@ -2,13 +2,13 @@
 ghost use Rattle.std.specs.Prelude.{◌≡◌, ◌≤◌, ◌<◌, ◌^◌, ◌+◌, ℕ, length, drop, slice_range, IfOk, OnOk, Err};
 ghost use Rattle.byte_ends.specs.Text.{lines};
 ghost use Rattle.history_reader.specs.declared.reader.TextRefusal.TheVariants.{NoMemory as OutOfMemory};
-ghost use Rattle.history_reader.specs.Reading.{IsHistory, IsFirstBad, IsEndBad, Ends};
+ghost use Rattle.history_reader.specs.Reading.{AllFit, IsHistory, IsFirstBad, IsEndBad, Ends};
 
 use crate::entries::entry_of;
 use crate::kinds::{is_last, is_only};
-use script_words::is_skipped;
 use byte_ends::{next_line, words_of};
 use file_parts::Span;
+use script_words::is_skipped;
 use std::alloc::{AllocError, AllocFailed, Global};
 use thiserror::Error;
 use unix_calls::Entry;
@@ -48,6 +48,7 @@ pub fn read_history(alloc: Global, bytes: &[u8], part: Span) -> Result<Vec<Entry
     requires first { part.first_line ≤ 2 ^ 31 }
     ensures entries { let ls = lines (slice_range bytes.now part.from part.to) in
         IfOk result (λ v. IsHistory ls v.items) }
+    ensures fit { IfOk result (λ v. AllFit v.items) }
     ensures bad { let ls = lines (slice_range bytes.now part.from part.to) in
         (line : ℕ) → result ≡ Err (TextRefusal.BadLine line) → IsFirstBad ls part.first_line line }
 {

@@ -5,7 +5,7 @@ use Rattle.std.proofs.lemmas.Result.{err_from_is_err_and}
 use Rattle.std.proofs.lemmas.Grind.{common_steps}
 use Rattle.byte_ends.specs.Text.{lines}
 use Rattle.unix_calls.specs.declared.Entry.{Entry}
-use Rattle.history_reader.specs.Reading.{is_nothing, is_schedule, is_last, IsFirstBad, Means}
+use Rattle.history_reader.specs.Reading.{is_nothing, is_schedule, is_last, IsFirstBad, Means, Fits}
 use Rattle.history_reader.proofs.HistoryLaws.{Reached, reached-end, reached-nothing, reached-entry, reached-schedule, reached-last, reached-bad, reached-bad_end}
 use Rattle.history_reader.proofs.reader.read_history.Goals as goal
 use Rattle.history_reader.proofs.reader.read_history.Goals.{then-not-is_skipped+else-is_only+else-is_last+in-Ok-Some+else-is_err, else-not-is_skipped}
@@ -123,8 +123,9 @@ loop-from-preserved c =
             let unscheduled : is_schedule l ≡ false = cc in
             let told : is_last l ≡ false = cc in
             let means : Means l w.in-Ok-Some.entry = rw w.in-Ok-Some.field-0-is at w.in-Ok-Some.ensures.found in
+            let fits : Fits w.in-Ok-Some.entry = rw w.in-Ok-Some.field-0-is at w.in-Ok-Some.ensures.fits in
             let pushed : c.if-not-is_skipped.entries.items ≡ c.loop-from.entries.items ++ w.in-Ok-Some.entry ∷ [] = grind (arith, common_steps) in
-            subst Q (sym pushed) (reached-entry (lines text) (lines (drop at text)) c.args.part.first_line c.loop-from.number c.loop-from.entries.items r l (lines (drop c.in-Some.next text)) first w.in-Ok-Some.entry nothing unscheduled told means)
+            subst Q (sym pushed) (reached-entry (lines text) (lines (drop at text)) c.args.part.first_line c.loop-from.number c.loop-from.entries.items r l (lines (drop c.in-Some.next text)) first w.in-Ok-Some.entry fits nothing unscheduled told means)
         | else-not-is_skipped w ↦
             let test = w.if-not-is_skipped.false in
             let kept = w.entries-is in
