@@ -30,187 +30,200 @@ fn fault_of(alloc: Global, text: &[u8]) -> Fault {
     }
 }
 
+// Texts, each with its least line that has a fault and the first fault of it.
+const FAULTY: [(&str, u32, Kind); 42] = [
+    ("", 1, Kind::NoClusterLine),
+    ("\n# cluster 1\n", 1, Kind::NoClusterLine),
+    ("# a\nscript a\nend\n", 2, Kind::NoClusterLine),
+    ("cluster 0\n", 1, Kind::TooManyNodes),
+    ("\ncluster 65\n", 2, Kind::TooManyNodes),
+    ("cluster 1x\n", 1, Kind::BadNumber),
+    ("cluster 4294967296\n", 1, Kind::BadNumber),
+    ("cluster 00000000001\n", 1, Kind::BadNumber),
+    ("cluster\n", 1, Kind::UnknownWord),
+    ("cluster 1 1\n", 1, Kind::UnknownWord),
+    ("cluster 1\0\n", 1, Kind::BadNumber),
+    ("cluster 1\r\n", 1, Kind::NoStart),
+    ("cluster 1\n\n\n", 3, Kind::NoStart),
+    ("cluster 1\nscript a\ngetpid\n", 3, Kind::UnknownWord),
+    ("cluster 1\nscript a\nscript b\n", 3, Kind::UnknownWord),
+    ("cluster 1\nend\n", 2, Kind::UnknownWord),
+    ("cluster 1\ngetpid\n", 2, Kind::UnknownWord),
+    (
+        "cluster 1\nscript a\nstart 0 a p\nend\n",
+        3,
+        Kind::UnknownWord,
+    ),
+    ("cluster 1\nscript a\nfoo\nbar\n", 3, Kind::UnknownWord),
+    (
+        "cluster 1\nscript a\nexit x\nexec b\nend\n",
+        3,
+        Kind::BadNumber,
+    ),
+    ("cluster 1\nscript self\n", 2, Kind::UnknownWord),
+    ("cluster 1\nscript abcdefghijklmnopq\n", 2, Kind::LongName),
+    (
+        "cluster 1\nscript a\nend\nstart 0 a abcdefghijklmnopq\n",
+        4,
+        Kind::LongName,
+    ),
+    ("cluster 1\nscript a\nend\nscript a\n", 4, Kind::DoubleName),
+    (
+        "cluster 1\nscript a\nend\nstart 0 a p\nstart 0 a p\n",
+        5,
+        Kind::DoubleName,
+    ),
+    ("cluster 1\nstart 0 a p\n", 2, Kind::UnknownScript),
+    (
+        "cluster 1\nscript a\nfork c b\nend\n",
+        3,
+        Kind::UnknownScript,
+    ),
+    (
+        "cluster 1\nscript a\nexec a\nend\nstart 0 a p\n",
+        3,
+        Kind::LaterScript,
+    ),
+    (
+        "cluster 1\nscript a\nfork c a\nend\nstart 0 a p\n",
+        3,
+        Kind::LaterScript,
+    ),
+    (
+        "cluster 1\nscript a\nfork c b\nend\nscript b\nend\n",
+        3,
+        Kind::LaterScript,
+    ),
+    (
+        "cluster 1\nscript a\nend\nstart 1 a p\n",
+        4,
+        Kind::NoSuchNode,
+    ),
+    ("cluster 2\nscript a\nmigrate 2\nend\n", 3, Kind::NoSuchNode),
+    (
+        "cluster 1\nscript a\nend\nstart 1 Q p\n",
+        4,
+        Kind::NoSuchNode,
+    ),
+    ("cluster 1\nscript a\nkill -1 9\nend\n", 3, Kind::BadNumber),
+    ("cluster 1\nscript a\nkill 0 9x\nend\n", 3, Kind::BadNumber),
+    (
+        "cluster 1\nscript a\nkill 0 NONE\nend\n",
+        3,
+        Kind::UnknownWord,
+    ),
+    ("cluster 1\nscript a\nwait -0\nend\n", 3, Kind::BadNumber),
+    (
+        "cluster 1\nscript a\nsetpgid 0 -2\nend\n",
+        3,
+        Kind::BadNumber,
+    ),
+    ("cluster 1\nscript a\nmask 4\nend\n", 3, Kind::BadNumber),
+    ("cluster 1\nscript a\ngetsid q\nend\n", 3, Kind::UnknownWord),
+    (
+        "cluster 1\nscript a\nend\nstart 0 a p with p\n",
+        4,
+        Kind::UnknownWord,
+    ),
+    (
+        "cluster 1\nscript a\nend\nstart 0 a p with q\nstart 0 a q\n",
+        4,
+        Kind::UnknownWord,
+    ),
+];
+
 #[test]
-fn tells_the_least_fault(rt: HostRuntime) -> Result<(), Fail> {
-    let cases = [
-        ("", 1, Kind::NoClusterLine),
-        ("\n# cluster 1\n", 1, Kind::NoClusterLine),
-        ("# a\nscript a\nend\n", 2, Kind::NoClusterLine),
-        ("cluster 0\n", 1, Kind::TooManyNodes),
-        ("\ncluster 65\n", 2, Kind::TooManyNodes),
-        ("cluster 1x\n", 1, Kind::BadNumber),
-        ("cluster 4294967296\n", 1, Kind::BadNumber),
-        ("cluster 00000000001\n", 1, Kind::BadNumber),
-        ("cluster\n", 1, Kind::UnknownWord),
-        ("cluster 1 1\n", 1, Kind::UnknownWord),
-        ("cluster 1\0\n", 1, Kind::BadNumber),
-        ("cluster 1\r\n", 1, Kind::NoStart),
-        ("cluster 1\n\n\n", 3, Kind::NoStart),
-        ("cluster 1\nscript a\ngetpid\n", 3, Kind::UnknownWord),
-        ("cluster 1\nscript a\nscript b\n", 3, Kind::UnknownWord),
-        ("cluster 1\nend\n", 2, Kind::UnknownWord),
-        ("cluster 1\ngetpid\n", 2, Kind::UnknownWord),
-        (
-            "cluster 1\nscript a\nstart 0 a p\nend\n",
-            3,
-            Kind::UnknownWord,
-        ),
-        ("cluster 1\nscript a\nfoo\nbar\n", 3, Kind::UnknownWord),
-        ("cluster 1\nscript self\n", 2, Kind::UnknownWord),
-        ("cluster 1\nscript abcdefghijklmnopq\n", 2, Kind::LongName),
-        (
-            "cluster 1\nscript a\nend\nstart 0 a abcdefghijklmnopq\n",
-            4,
-            Kind::LongName,
-        ),
-        ("cluster 1\nscript a\nend\nscript a\n", 4, Kind::DoubleName),
-        (
-            "cluster 1\nscript a\nend\nstart 0 a p\nstart 0 a p\n",
-            5,
-            Kind::DoubleName,
-        ),
-        ("cluster 1\nstart 0 a p\n", 2, Kind::UnknownScript),
-        (
-            "cluster 1\nscript a\nfork c b\nend\n",
-            3,
-            Kind::UnknownScript,
-        ),
-        (
-            "cluster 1\nscript a\nexec a\nend\nstart 0 a p\n",
-            3,
-            Kind::LaterScript,
-        ),
-        (
-            "cluster 1\nscript a\nfork c a\nend\nstart 0 a p\n",
-            3,
-            Kind::LaterScript,
-        ),
-        (
-            "cluster 1\nscript a\nfork c b\nend\nscript b\nend\n",
-            3,
-            Kind::LaterScript,
-        ),
-        (
-            "cluster 1\nscript a\nend\nstart 1 a p\n",
-            4,
-            Kind::NoSuchNode,
-        ),
-        ("cluster 2\nscript a\nmigrate 2\nend\n", 3, Kind::NoSuchNode),
-        (
-            "cluster 1\nscript a\nend\nstart 1 Q p\n",
-            4,
-            Kind::NoSuchNode,
-        ),
-        ("cluster 1\nscript a\nkill -1 9\nend\n", 3, Kind::BadNumber),
-        ("cluster 1\nscript a\nkill 0 9x\nend\n", 3, Kind::BadNumber),
-        (
-            "cluster 1\nscript a\nkill 0 NONE\nend\n",
-            3,
-            Kind::UnknownWord,
-        ),
-        ("cluster 1\nscript a\nwait -0\nend\n", 3, Kind::BadNumber),
-        (
-            "cluster 1\nscript a\nsetpgid 0 -2\nend\n",
-            3,
-            Kind::BadNumber,
-        ),
-        ("cluster 1\nscript a\nmask 4\nend\n", 3, Kind::BadNumber),
-        ("cluster 1\nscript a\ngetsid q\nend\n", 3, Kind::UnknownWord),
-        (
-            "cluster 1\nscript a\nend\nstart 0 a p with p\n",
-            4,
-            Kind::UnknownWord,
-        ),
-        (
-            "cluster 1\nscript a\nend\nstart 0 a p with q\nstart 0 a q\n",
-            4,
-            Kind::UnknownWord,
-        ),
-    ];
-    for (text, line, kind) in cases {
+fn tells_the_least_fault(rt: HostRuntime) {
+    for (text, line, kind) in FAULTY {
         assert_eq!(rt; fault_of(rt.alloc(), text.as_bytes()), Fault { line, kind });
     }
-    let torn = fault_of(rt.alloc(), b"cluster 1\n# \xff\n");
-    assert_eq!(rt;
-        torn,
-        Fault {
-            line: 2,
-            kind: Kind::NotUtf8
-        }
-    );
-    let silent = fault_of(rt.alloc(), b"#\xff\n");
-    assert_eq!(rt;
-        silent,
-        Fault {
-            line: 1,
-            kind: Kind::NotUtf8
-        }
-    );
-    let blank = fault_of(rt.alloc(), b"\n#\xff\n");
-    assert_eq!(rt;
-        blank,
-        Fault {
-            line: 1,
-            kind: Kind::NoClusterLine
-        }
-    );
-    Ok(())
+    let bytes: [(&[u8], u32, Kind); 4] = [
+        (b"#\xff\n", 1, Kind::NotUtf8),
+        (b"\n#\xff\n", 1, Kind::NoClusterLine),
+        (b"cluster 1\n# \xff\n", 2, Kind::NotUtf8),
+        (b"cluster 1\nscript a\nexit 4\xff\nend\n", 3, Kind::NotUtf8),
+    ];
+    for (text, line, kind) in bytes {
+        assert_eq!(rt; fault_of(rt.alloc(), text), Fault { line, kind });
+    }
 }
 
-// So many starts of a script that makes one process and 16 more: at most 60 of them make at most 1,024.
-fn crowd(alloc: Global, starts: u32) -> Result<String, Fail> {
+// A text that stands so many times, each time with its number, from 1 on, between its two halves.
+type Piece = (&'static str, u32, &'static str);
+
+fn text_of(alloc: Global, pieces: &[Piece]) -> Result<String, Fail> {
     let mut text = String::new(alloc);
-    text.push_str("cluster 1\nscript a\nend\nscript b\n")?;
-    for _ in 0..16 {
-        text.push_str("fork c a\n")?;
-    }
-    text.push_str("end\n")?;
-    for n in 0..starts {
-        write!(text, "start 0 b p{n}\n")?;
+    for (front, times, back) in pieces {
+        for n in 0..*times {
+            let number = n + 1;
+            write!(text, "{front}{number}{back}")?;
+        }
     }
     Ok(text)
 }
 
+const FIRST: Piece = ("cluster ", 1, "\nscript a\nend\n");
+
+const SCRIPTS: Piece = ("script a", 63, "\nend\n");
+
+const OPENED: Piece = ("script b", 1, "\n");
+
+const CLOSED: Piece = ("end\nstart 0 b1 q", 1, "\n");
+
+const FULL: Piece = ("exit ", 256, "\n");
+
+const STARTS: Piece = ("start 0 a p", 64, "\n");
+
+// With these a script makes one process and 16 more: at most 60 of them make at most 1,024.
+const FORKS: Piece = ("fork c", 16, " a\n");
+
+// With these a script runs one statement and 255 more: at most 16 of them run at most 4,096.
+const LONG: Piece = ("exit ", 255, "\n");
+
 #[test]
-fn keeps_the_limits(rt: HostRuntime) -> Result<(), Fail> {
-    let mut scripts = String::new(rt.alloc());
-    scripts.push_str("cluster 1\n")?;
-    for n in 0..65 {
-        write!(scripts, "script a{n}\nend\n")?;
+fn takes_what_the_limits_let_in(rt: HostRuntime) -> Result<(), Fail> {
+    let fine: [&[Piece]; 4] = [
+        &[FIRST, SCRIPTS, STARTS],
+        &[FIRST, OPENED, FULL, CLOSED],
+        &[FIRST, OPENED, FORKS, CLOSED, ("start 0 b1 p", 59, "\n")],
+        &[FIRST, OPENED, LONG, CLOSED, ("start 0 b1 p", 15, "\n")],
+    ];
+    for pieces in fine {
+        let text = text_of(rt.alloc(), pieces)?;
+        assert!(rt; read(rt.alloc(), text.as_bytes()).is_ok());
     }
-    let many = Fault {
-        line: 130,
-        kind: Kind::TooManyScripts,
-    };
-    assert_eq!(rt; fault_of(rt.alloc(), scripts.as_bytes()), many);
-    let mut statements = String::new(rt.alloc());
-    statements.push_str("cluster 1\nscript a\n")?;
-    for _ in 0..257 {
-        statements.push_str("getpid\n")?;
+    Ok(())
+}
+
+#[test]
+fn tells_what_passes_a_limit(rt: HostRuntime) -> Result<(), Fail> {
+    let unnamed = ("script ", 1, "\n");
+    let wrong = ("exit x", 1, "\n");
+    let one = ("start 0 a q", 1, "\n");
+    let nowhere = ("start ", 1, "\n");
+    let crowd = ("start 0 b1 p", 64, "\n");
+    let bad: [(&[Piece], u32, Kind); 8] = [
+        (&[FIRST, SCRIPTS, OPENED], 130, Kind::TooManyScripts),
+        (&[FIRST, SCRIPTS, unnamed], 130, Kind::TooManyScripts),
+        (&[FIRST, OPENED, FULL, FULL], 261, Kind::TooManyStatements),
+        (&[FIRST, OPENED, FULL, wrong], 261, Kind::TooManyStatements),
+        (&[FIRST, STARTS, one], 68, Kind::TooManyStarts),
+        (&[FIRST, STARTS, nowhere], 68, Kind::TooManyStarts),
+        (
+            &[FIRST, OPENED, FORKS, CLOSED, crowd],
+            82,
+            Kind::TooMuchWork,
+        ),
+        (
+            &[FIRST, OPENED, LONG, CLOSED, crowd],
+            277,
+            Kind::TooMuchWork,
+        ),
+    ];
+    for (pieces, line, kind) in bad {
+        let text = text_of(rt.alloc(), pieces)?;
+        assert_eq!(rt; fault_of(rt.alloc(), text.as_bytes()), Fault { line, kind });
     }
-    let long = Fault {
-        line: 259,
-        kind: Kind::TooManyStatements,
-    };
-    assert_eq!(rt; fault_of(rt.alloc(), statements.as_bytes()), long);
-    let mut starts = String::new(rt.alloc());
-    starts.push_str("cluster 1\nscript a\nend\n")?;
-    for n in 0..65 {
-        write!(starts, "start 0 a p{n}\n")?;
-    }
-    let crowded = Fault {
-        line: 68,
-        kind: Kind::TooManyStarts,
-    };
-    assert_eq!(rt; fault_of(rt.alloc(), starts.as_bytes()), crowded);
-    let sixty = crowd(rt.alloc(), 60)?;
-    assert!(rt; read(rt.alloc(), sixty.as_bytes()).is_ok());
-    let more = crowd(rt.alloc(), 61)?;
-    let work = Fault {
-        line: 82,
-        kind: Kind::TooMuchWork,
-    };
-    assert_eq!(rt; fault_of(rt.alloc(), more.as_bytes()), work);
     Ok(())
 }
 

@@ -1,4 +1,6 @@
-use Rattle.std.specs.Prelude.{ℕ, List, codes}
+use Rattle.std.specs.Prelude.{ℕ, List, ◌++◌, codes}
+use Rattle.std.specs.Fmt.{decimal}
+use Rattle.script_words.specs.declared.faults.Fault.{Fault}
 use Rattle.script_words.specs.declared.faults.Kind.{Kind}
 use Rattle.script_words.specs.declared.faults.Kind.TheVariants.{NotUtf8, NoClusterLine, UnknownWord, UnknownScript, LaterScript, BadNumber, NoSuchNode, TooManyNodes, TooManyScripts, TooManyStatements, TooManyStarts, TooMuchWork, TooManyTurns, NoStart, DoubleName, LongName}
 
@@ -20,3 +22,7 @@ name_of TooManyTurns = codes "TooManyTurns"
 name_of NoStart = codes "NoStart"
 name_of DoubleName = codes "DoubleName"
 name_of LongName = codes "LongName"
+
+-- how a fault is told
+abbrev pub text_of : Fault → List ℕ
+text_of fault = codes "line " ++ (decimal fault.line ++ (codes ": " ++ name_of fault.kind))
