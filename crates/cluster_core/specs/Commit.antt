@@ -1,6 +1,5 @@
 -- What the code of a turn goes through: who is told without the groups that an end leaves, which groups that may be, and which image a push moves.
-use Rattle.std.specs.Prelude.{Bool, true, false, not, if◌then◌else◌, List, [], ◌∷◌, map, filter, find, Option, All}
-use Rattle.std.specs.List.{list_any}
+use Rattle.std.specs.Prelude.{ℕ, ◌≡◌, Bool, true, false, not, if◌then◌else◌, List, [], ◌∷◌, filter, find, slice_get, remove, Option, All}
 use Rattle.unix_names.specs.declared.Pid.{Pid}
 use Rattle.unix_calls.specs.declared.Call.{Call}
 use Rattle.unix_calls.specs.declared.Call.TheVariants.{Exit, Kill, Setpgid, Setsid}
@@ -15,23 +14,11 @@ use Rattle.ordered_table.specs.Entries.{pids_of}
 use Rattle.proc_image.specs.declared.image.Image.{Image}
 use Rattle.proc_image.specs.Images.{IsFit}
 use Rattle.kernel_rules.specs.declared.rows.Row.{Row}
-use Rattle.kernel_rules.specs.Rows.{is_same, is_stopped}
 use Rattle.kernel_model.specs.Changes.{is_at_risk}
+use Rattle.kernel_model.specs.Step.{process_of}
 use Rattle.cluster_core.specs.declared.machine.Machine.{Machine}
 use Rattle.cluster_core.specs.Run.{is_stopped_phase}
 use Rattle.cluster_core.specs.Machine.{Groups, members_of, others, told_of_kill_call, told_of_setpgid, told_of_setsid}
-
--- the process of the row is stopped
-abbrev pub is_stopped_row : Row → Bool
-is_stopped_row c = is_stopped c.life
-
--- the groups of the processes that are stopped
-abbrev pub stopped_groups : List Row → List Pid
-stopped_groups rows = map (λ c. c.group) (filter is_stopped_row rows)
-
--- whether a process or a group is one of these
-abbrev pub is_listed : Pid → List Pid → Bool
-is_listed g pids = list_any (λ q. is_same q g) pids
 
 -- the members of a group but one
 abbrev pub others_in : Groups → Pid → Pid → List Pid
@@ -71,7 +58,7 @@ is_end (Happened p event) = is_end_event event
 
 -- the groups that an entry may leave orphaned with a stopped member, by what was before it
 abbrev pub risked : List Row → Entry → Groups → List Pid
-risked before entry groups = if is_end entry then filter (is_at_risk before) (pids_of groups) else []
+risked before entry groups = if is_end entry then filter (is_at_risk before (process_of entry)) (pids_of groups) else []
 
 -- every image of a node fits the world
 pub record AllFit (world : World) (m : Machine) : Type 0 where
@@ -89,3 +76,8 @@ first_movable images = find is_movable images
 abbrev pub without_movable : List Image → List Image
 without_movable [] = []
 without_movable (image ∷ rest) = if is_stopped_phase image.phase then image ∷ without_movable rest else rest
+
+-- the first image that is not stopped is the one at this place
+pub record IsFirstMovable (images : List Image) (at : ℕ) : Type 0 where
+  pub first : slice_get images at ≡ first_movable images
+  pub rest : remove images at ≡ without_movable images

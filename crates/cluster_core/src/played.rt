@@ -1,8 +1,9 @@
 // A node with what it has committed so far, and its turns.
-ghost use Rattle.std.specs.Prelude.{◌≡◌, ◌+◌, ◌<◌, ◌^◌, ◌++◌, [], map, IfOk, OnOk};
+ghost use Rattle.std.specs.Prelude.{◌≡◌, ◌+◌, ◌<◌, ◌^◌, [], map, None, false, slice_get, IfSome, IfNone, IfOk, OnOk};
+ghost use Rattle.std.specs.Option.{option_map_or};
 ghost use Rattle.unix_calls.specs.Valid.{IsValid};
 ghost use Rattle.proc_image.specs.Images.{IsFit, JobHasNames, start_image};
-ghost use Rattle.cluster_core.specs.Commit.{AllFit, first_movable, without_movable};
+ghost use Rattle.cluster_core.specs.Commit.{AllFit, is_movable, IsFirstMovable, first_movable, without_movable};
 ghost use Rattle.cluster_core.specs.Run.{first_machine, is_stopped_phase, played, gone, pushed, gone_times, turned, turn_count};
 
 use crate::choice::{chosen, record};
@@ -45,39 +46,37 @@ fn is_stopped(phase: Phase) -> bool
     matches!(phase, Phase::Stopped)
 }
 
-/// Puts images before those of the queue.
-fn put_back(ready: &mut Queue<Image>, mut before: Queue<Image>) -> Result<(), NoMemory>
-    ensures { OnOk result (ready.new ≡ before ++ ready.old) }
+fn is_movable(ready: &Queue<Image>, at: usize) -> bool
+    ensures { result ≡ option_map_or is_movable (slice_get ready.now at) false }
 {
-    if before.is_empty() {
-        return Ok(());
+    match ready.get(at) {
+        Some(image) => !is_stopped(image.phase),
+        None => false,
     }
-    while let Some(image) = ready.pop() {
-        if before.push(image).is_err() {
-            return Err(NoMemory);
+}
+
+/// The place of the first image of the queue that is not stopped.
+#[tactic(auto, using(crate::proofs::TurnLaws::none_more))]
+fn place_of_movable(ready: &Queue<Image>) -> Option<usize>
+    ensures some { IfSome result (IsFirstMovable ready.now) }
+    ensures none { IfNone result (first_movable ready.now ≡ None) }
+{
+    for at in 0..ready.len() {
+        if is_movable(ready, at) {
+            return Some(at);
         }
     }
-    *ready = before;
-    Ok(())
+    None
 }
 
 /// The first image of the queue that is not stopped leaves it; the others keep their order.
-fn take_movable(alloc: Global, ready: &mut Queue<Image>) -> Result<Option<Image>, NoMemory>
-    ensures first { IfOk result (λ image. image ≡ first_movable ready.old) }
-    ensures rest { OnOk result (ready.new ≡ without_movable ready.old) }
+#[tactic(auto, using(crate::proofs::TurnLaws::none_movable))]
+fn take_movable(ready: &mut Queue<Image>) -> Option<Image>
+    ensures first { result ≡ first_movable ready.old }
+    ensures rest { ready.new ≡ without_movable ready.old }
 {
-    let mut before = Queue::new(alloc);
-    while let Some(image) = ready.pop() {
-        if !is_stopped(image.phase) {
-            put_back(ready, before)?;
-            return Ok(Some(image));
-        }
-        if before.push(image).is_err() {
-            return Err(NoMemory);
-        }
-    }
-    put_back(ready, before)?;
-    Ok(None)
+    let at = place_of_movable(ready)?;
+    ready.remove(at)
 }
 
 impl Played {
@@ -152,7 +151,7 @@ impl Played {
         requires room { self.old.machine.serial + 1 < 2 ^ 32 }
         ensures { OnOk result (self.new ≡ pushed world.now self.old) }
     {
-        match take_movable(alloc, &mut self.machine.ready)? {
+        match take_movable(&mut self.machine.ready) {
             Some(image) => self.play(alloc, world, image, &Job::Push(NodeId(0))),
             None => Ok(()),
         }

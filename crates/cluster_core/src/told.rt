@@ -1,14 +1,15 @@
 // Who is told of an entry, so that its process does not sleep on.
 ghost use Rattle.std.specs.Prelude.{◌≡◌, ◌++◌, ◌∷◌, [], filter, if◌then◌else◌, IfOk, OnOk};
-ghost use Rattle.std.specs.List.{list_any, flat_map};
+ghost use Rattle.std.specs.List.{flat_map};
 ghost use Rattle.unix_calls.specs.Calls.{HasNames, EntryHasNames, IsName};
 ghost use Rattle.ordered_table.specs.Entries.{pids_of};
-ghost use Rattle.kernel_model.specs.Changes.{is_at_risk, is_left};
+ghost use Rattle.kernel_model.specs.Changes.{is_among, is_at_risk, is_left};
 ghost use Rattle.cluster_core.specs.Machine.{members_of, others, told_of_kill, told_of_kill_call, told_of_move, told_of_setpgid, told_of_setsid};
-ghost use Rattle.cluster_core.specs.Commit.{is_stopped_row, stopped_groups, is_listed, others_in, told_first_of_call, told_first_of_event, told_first, is_end, risked};
+ghost use Rattle.cluster_core.specs.Commit.{others_in, told_first_of_call, told_first_of_event, told_first, is_end, risked};
 
 use crate::groups::Groups;
-use kernel_rules::{Row, find_named, has_stopped, is_orphaned, is_stopped, wanted_group};
+use kernel_model::{groups_at_risk, is_among, process_of};
+use kernel_rules::{Row, find_named, has_stopped, is_orphaned, wanted_group};
 use std::alloc::Global;
 use unix_calls::{Call, Entry, Event, Reply, Target, target_of};
 use unix_names::{NoMemory, Pid, Seq};
@@ -197,68 +198,28 @@ pub fn told_first(
     }
 }
 
-fn has_stopped_row(rows: &[Row]) -> bool
-    ensures { result ≡ list_any is_stopped_row rows.now }
+fn add_listed(risk: &mut Seq<Pid>, groups: &[Pid], group: Pid) -> Result<(), NoMemory>
+    ensures { OnOk result (risk.new ≡ risk.old ++ (if is_among groups.now group then group ∷ [] else [])) }
 {
-    rows.iter().any(|row| is_stopped(row.life))
-}
-
-/// The groups of the processes that are stopped.
-#[tactic(auto, using(crate::proofs::ToldLaws::stopped_more))]
-fn stopped_groups(alloc: Global, rows: &[Row]) -> Result<Vec<Pid>, NoMemory>
-    ensures { IfOk result (λ groups. groups.items ≡ stopped_groups rows.now) }
-{
-    let mut groups = Vec::new(alloc);
-    for row in rows {
-        if is_stopped(row.life) {
-            groups.push(row.group)?;
-        }
-    }
-    Ok(groups)
-}
-
-fn is_listed(pids: &[Pid], pid: Pid) -> bool
-    ensures { result ≡ is_listed pid pids.now }
-{
-    pids.iter().any(|other| *other == pid)
-}
-
-// A group is looked up among those of the stopped processes first, which are few.
-#[tactic(auto, using(crate::proofs::ToldLaws::listed_stopped))]
-fn is_at_risk(rows: &[Row], stopped: &[Pid], group: Pid) -> bool
-    requires { stopped.now ≡ stopped_groups rows.now }
-    ensures { result ≡ is_at_risk rows.now group }
-{
-    is_listed(stopped, group) && !is_orphaned(rows, group)
-}
-
-fn add_at_risk(
-    risk: &mut Seq<Pid>,
-    rows: &[Row],
-    stopped: &[Pid],
-    group: Pid,
-) -> Result<(), NoMemory>
-    requires { stopped.now ≡ stopped_groups rows.now }
-    ensures { OnOk result (risk.new ≡ risk.old ++ (if is_at_risk rows.now group then group ∷ [] else [])) }
-{
-    if is_at_risk(rows, stopped, group) {
+    if is_among(groups, group) {
         risk.push(group)?;
     }
     Ok(())
 }
 
-/// The groups with a stopped member that are not orphaned, in order of number.
-#[tactic(auto, using(crate::proofs::ToldLaws::none_at_risk))]
-fn groups_at_risk(alloc: Global, rows: &[Row], groups: &Groups) -> Result<Seq<Pid>, NoMemory>
-    ensures { IfOk result (λ risk. risk ≡ filter (is_at_risk rows.now) (pids_of groups.now)) }
+/// The groups that the end of a process may leave orphaned with a stopped member, in order of number.
+fn risked_by_end(
+    alloc: Global,
+    rows: &[Row],
+    pid: Pid,
+    groups: &Groups,
+) -> Result<Seq<Pid>, NoMemory>
+    ensures { IfOk result (λ risk. risk ≡ filter (is_at_risk rows.now pid) (pids_of groups.now)) }
 {
+    let at_risk = groups_at_risk(alloc, rows, pid)?;
     let mut risk = Seq::new(alloc);
-    if !has_stopped_row(rows) {
-        return Ok(risk);
-    }
-    let stopped = stopped_groups(alloc, rows)?;
     for members in groups.as_slice() {
-        add_at_risk(&mut risk, rows, &stopped, members.pid)?;
+        add_listed(&mut risk, &at_risk, members.pid)?;
     }
     Ok(risk)
 }
@@ -283,7 +244,7 @@ pub fn risked(
     ensures { IfOk result (λ risk. risk ≡ risked rows.now entry.now groups.now) }
 {
     if is_end(entry) {
-        groups_at_risk(alloc, rows, groups)
+        risked_by_end(alloc, rows, process_of(entry), groups)
     } else {
         Ok(Seq::new(alloc))
     }
@@ -293,5 +254,5 @@ pub fn risked(
 pub fn keep_left(groups: &mut Seq<Pid>, rows: &[Row])
     ensures { groups.new ≡ filter (is_left rows.now) groups.old }
 {
-    groups.retain(|group| is_orphaned(rows, *group) && has_stopped(rows, *group));
+    groups.retain(|group| has_stopped(rows, *group) && is_orphaned(rows, *group));
 }

@@ -1,3 +1,4 @@
 pub mod ChangeLaws
+pub mod NearLaws
 pub mod EndLaws
 pub mod SentLaws

@@ -1,5 +1,5 @@
 -- changes of one process's row, as the code makes them
-use Rattle.std.specs.Prelude.{Bool, true, List, [], ◌∷◌, ◌++◌, ◌≡◌, ◌&&◌, not, None, Some, if◌then◌else◌}
+use Rattle.std.specs.Prelude.{Bool, true, List, [], ◌∷◌, ◌++◌, ◌≡◌, ◌&&◌, ◌||◌, map, filter, None, Some, if◌then◌else◌}
 use Rattle.std.specs.List.{list_any}
 use Rattle.unix_names.specs.declared.Pid.{Pid}
 use Rattle.unix_names.specs.declared.Signal.{Signal}
@@ -10,11 +10,11 @@ use Rattle.signal_state.specs.Sig.{delivered, stopped_by, resumed, after_exec, w
 use Rattle.kernel_rules.specs.declared.rows.Row.{Row}
 use Rattle.kernel_model.specs.declared.changes.Change.{Change}
 use Rattle.kernel_model.specs.declared.changes.Change.TheVariants.{Delivered, Stopped, Continued, Ended, Reported, Execed, Regrouped, Leading, Acting, Masked}
-use Rattle.kernel_rules.specs.Rows.{is_same}
-use Rattle.kernel_rules.specs.Orphans.{is_orphaned, is_stopped_in}
+use Rattle.kernel_rules.specs.Rows.{is_same, is_pid, is_parent}
+use Rattle.kernel_rules.specs.Orphans.{is_link_of, is_orphaned, is_stopped_in}
 use Rattle.kernel_rules.specs.Refusals.{action_refusal}
 use Rattle.kernel_model.specs.Sent.{sent_to_parent}
-use Rattle.kernel_model.specs.Ending.{ended_at}
+use Rattle.kernel_model.specs.Ending.{ended_at, is_ended_child}
 use Rattle.kernel_model.specs.Events.{delivered_at, stopped_at, continued_at}
 use Rattle.kernel_model.specs.Step.{reported_at, execed_at, regrouped_at, leading_at, acting_at, masked_at}
 
@@ -53,13 +53,26 @@ changed_at p (Masked set) = masked_at p set
 abbrev pub is_among : List Pid → Pid → Bool
 is_among groups g = list_any (is_same g) groups
 
--- the group has a stopped member, and is not orphaned
-abbrev pub is_at_risk : List Row → Pid → Bool
-is_at_risk rows g = list_any (is_stopped_in g) rows && not (is_orphaned rows g)
+-- ---- which groups an end may leave orphaned
+-- the ended children of a process
+abbrev pub ended_children : List Row → Pid → List Pid
+ended_children rows p = map (λ c. c.pid) (filter (is_ended_child p) rows)
 
--- the group is orphaned, and has a stopped member
+-- the row is that of the process, of a child of it, or of a child of an ended child: its end changes this row, or removes that of its parent
+abbrev pub is_near : List Row → Pid → Row → Bool
+is_near rows p c = is_pid p c || (is_parent p c || is_among (ended_children rows p) c.parent)
+
+-- a member that keeps this group from being orphaned, and is near the process
+abbrev pub is_near_link : List Row → Pid → Pid → Row → Bool
+is_near_link rows p g c = is_near rows p c && is_link_of rows g c
+
+-- the group has such a member, and a stopped one
+abbrev pub is_at_risk : List Row → Pid → Pid → Bool
+is_at_risk rows p g = list_any (is_near_link rows p g) rows && list_any (is_stopped_in g) rows
+
+-- the group has a stopped member, and is orphaned
 abbrev pub is_left : List Row → Pid → Bool
-is_left rows g = is_orphaned rows g && list_any (is_stopped_in g) rows
+is_left rows g = list_any (is_stopped_in g) rows && is_orphaned rows g
 
 -- what an end sends to a row, where these groups are newly orphaned
 abbrev pub sent_with : Row → List Pid → Row → List Signal

@@ -1,13 +1,15 @@
 // The end of a process (POSIX.1-2017, XSH _Exit).
-ghost use Rattle.std.specs.Prelude.{◌≡◌, ◌&&◌, not, map, filter, OnOk, OnErr, IfOk};
+ghost use Rattle.std.specs.Prelude.{◌≡◌, ◌&&◌, ◌||◌, not, map, filter, OnOk, OnErr, IfOk};
+ghost use Rattle.std.specs.List.{list_any};
 ghost use Rattle.unix_names.specs.declared.Pid.{Pid};
-ghost use Rattle.kernel_model.specs.Changes.{is_among, is_at_risk, is_left};
-ghost use Rattle.kernel_rules.specs.Rows.{is_pid, is_stopped};
-ghost use Rattle.kernel_rules.specs.Orphans.{is_orphaned};
+ghost use Rattle.kernel_model.specs.Changes.{is_among, ended_children, is_near, is_at_risk, is_left};
+ghost use Rattle.kernel_rules.specs.Rows.{is_same, is_pid};
+ghost use Rattle.kernel_rules.specs.Orphans.{is_link, is_stopped_in};
 ghost use Rattle.kernel_model.specs.Ending.{ignores_children, vanishes, with_end, given_up, is_ended_child, without_children, rows_left, after_end};
 
 use crate::changes::{Change, change_row, is_among, signal_end};
-use kernel_rules::{Row, find_row, has_stopped, is_orphaned, is_stopped};
+use kernel_rules::{Row, find_row, has_stopped, is_link, is_orphaned};
+use std::alloc::Global;
 use unix_names::{NoMemory, Pid, SYSTEM, Signal, WaitStatus, is_living};
 
 fn ignores_children(parent: Option<Row>) -> bool
@@ -81,21 +83,47 @@ fn leave(rows: &mut Vec<Row>, row: &Row, status: WaitStatus)
     leave_children(rows, row.pid);
 }
 
-/// Whether a row shows a group with a stopped member that is not orphaned and not yet listed.
-fn adds_risk(rows: &[Row], groups: &[Pid], row: &Row) -> bool
-    ensures { result ≡ (is_stopped row.now.life && (not (is_among groups.now row.now.group) && not (is_orphaned rows.now row.now.group))) }
+/// The ended children of a process.
+#[tactic(auto, using(crate::proofs::NearLaws::ended_more))]
+fn ended_children(alloc: Global, rows: &[Row], pid: Pid) -> Result<Vec<Pid>, NoMemory>
+    ensures { IfOk result (λ pids. pids.items ≡ ended_children rows.now pid) }
 {
-    is_stopped(row.life) && !is_among(groups, row.group) && !is_orphaned(rows, row.group)
+    let mut pids = Vec::new(alloc);
+    for row in rows {
+        if row.parent == pid && !is_living(row.life) {
+            pids.push(row.pid)?;
+        }
+    }
+    Ok(pids)
 }
 
-/// The groups that have a stopped member and are not orphaned.
-fn groups_at_risk(rows: &Vec<Row>) -> Result<Vec<Pid>, NoMemory>
-    ensures { IfOk result (λ groups. (g : Pid) → is_among groups.items g ≡ is_at_risk rows.now.items g) }
+/// Whether a row is that of a process, of a child of it, or of a child of one that has ended, and keeps its group from being orphaned.
+fn is_near_link(rows: &[Row], row: &Row, pid: Pid, ended: &[Pid]) -> bool
+    requires { ended.now ≡ ended_children rows.now pid }
+    ensures { result ≡ (is_near rows.now pid row.now && is_link rows.now row.now) }
 {
-    let mut groups = Vec::new(*rows.allocator());
+    (row.pid == pid || row.parent == pid || is_among(ended, row.parent)) && is_link(rows, row)
+}
+
+/// Adds a group to a list where it has a stopped member and is not listed.
+fn add_stopped(groups: &mut Vec<Pid>, rows: &[Row], group: Pid) -> Result<(), NoMemory>
+    ensures { OnOk result ((g : Pid) → is_among groups.new.items g ≡ (is_among groups.old.items g || (is_same g group && list_any (is_stopped_in g) rows.now))) }
+{
+    if !is_among(groups, group) && has_stopped(rows, group) {
+        groups.push(group)?;
+    }
+    Ok(())
+}
+
+/// The groups that the end of a process may leave orphaned with a stopped member: those with one that a row near the process keeps from being orphaned.
+pub fn groups_at_risk(alloc: Global, rows: &[Row], pid: Pid) -> Result<Vec<Pid>, NoMemory>
+    ensures { IfOk result (λ groups. (g : Pid) → is_among groups.items g ≡ is_at_risk rows.now pid g) }
+{
+    let ended = ended_children(alloc, rows, pid)?;
+    let mut groups = Vec::new(alloc);
     for row in rows {
-        if adds_risk(rows, groups.as_slice(), row) {
-            groups.push(row.group)?;
+        if is_near_link(rows, row, pid, &ended) {
+            add_stopped(&mut groups, rows, row.group)?;
         }
     }
     Ok(groups)
@@ -105,7 +133,7 @@ fn groups_at_risk(rows: &Vec<Row>) -> Result<Vec<Pid>, NoMemory>
 fn keep_left(groups: &mut Vec<Pid>, rows: &[Row])
     ensures { groups.new.items ≡ filter (is_left rows.now) groups.old.items }
 {
-    groups.retain(|group| is_orphaned(rows, *group) && has_stopped(rows, *group));
+    groups.retain(|group| has_stopped(rows, *group) && is_orphaned(rows, *group));
 }
 
 /// Ends a process: its row, its children, the signal for its parent, and those for the groups that it leaves orphaned.
@@ -113,7 +141,7 @@ pub fn end(rows: &mut Vec<Row>, row: &Row, status: WaitStatus) -> Result<(), NoM
     ensures ok { OnOk result (rows.new.items ≡ after_end rows.old.items row.now status) }
     ensures err { OnErr result (rows.new.items ≡ rows.old.items) }
 {
-    let mut groups = groups_at_risk(rows)?;
+    let mut groups = groups_at_risk(*rows.allocator(), rows, row.pid)?;
     leave(rows, row, status);
     keep_left(&mut groups, rows);
     signal_end(rows, row, groups.as_slice());

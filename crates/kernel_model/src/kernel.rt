@@ -115,7 +115,7 @@ fn take_step(rows: &mut Vec<Row>, row: &Row, entry: &Entry) -> Result<(), NoMemo
 }
 
 /// The process that an entry speaks of.
-fn process_of(entry: &Entry) -> Pid
+pub fn process_of(entry: &Entry) -> Pid
     ensures { result ≡ process_of entry.now }
 {
     match entry {

@@ -8,7 +8,9 @@ mod events;
 mod kernel;
 mod verdict;
 
-pub use kernel::Kernel;
+pub use changes::is_among;
+pub use ending::groups_at_risk;
+pub use kernel::{Kernel, process_of};
 pub use kernel_rules::Row;
 pub use verdict::{Rule, Verdict};
 

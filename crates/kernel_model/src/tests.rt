@@ -314,6 +314,26 @@ fn wakes_the_newly_orphaned(rt: HostRuntime) -> Result<(), Fail> {
     )
 }
 
+// The end of 3 leaves its own group orphaned, with its stopped child.
+#[test]
+fn wakes_the_rest_of_the_group(rt: HostRuntime) -> Result<(), Fail> {
+    let mut kernel = alone(rt.alloc())?;
+    run(
+        &rt,
+        &mut kernel,
+        &[
+            number(2, Call::Fork, 3),
+            fine(2, setpgid(3, 3)),
+            number(3, Call::Fork, 4),
+            fine(3, kill(4, STOP)),
+            happened(4, Event::StoppedBy(Signal::Stop)),
+            exits(3, 0),
+            happened(4, Event::Continued),
+            happened(4, Event::EndedBy(Signal::Hup)),
+        ],
+    )
+}
+
 // The group of 3 is orphaned from the first, so the end of 2 wakes nobody, and the stop of a terminal is spared it.
 #[test]
 fn leaves_the_long_orphaned(rt: HostRuntime) -> Result<(), Fail> {

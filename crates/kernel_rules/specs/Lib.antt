@@ -1,4 +1,5 @@
 pub mod Conditions
+pub mod Marks
 pub mod Orphans
 pub mod Permission
 pub mod Refusals

@@ -1,5 +1,6 @@
 // A line of values, of which the first leaves first.
-ghost use Rattle.std.specs.Prelude.{◌≡◌, ◌↔◌, [], ◌∷◌, ◌++◌, length, IsTrue, IfSome, IfNone, IfErr, OnOk, OnErr};
+ghost use Rattle.std.specs.Prelude.{◌≡◌, ◌↔◌, [], ◌∷◌, ◌++◌, length, remove, slice_get, IsTrue, IfSome, IfNone, IfErr, OnOk, OnErr, OnSome};
+ghost use Rattle.std.specs.Option.{option_copied};
 
 use std::alloc::Global;
 use std::collections::VecDeque;
@@ -59,5 +60,21 @@ impl<T> Queue<T> {
         ensures none_new { IfNone result (self.new ≡ []) }
     {
         self.items.pop_front()
+    }
+
+    /// The item at a place, counted from 0 at the front. None exactly past the end.
+    pub fn get(&self, at: usize) -> Option<&T>
+        ensures { option_copied result ≡ slice_get self.now at }
+    {
+        self.items.get(at)
+    }
+
+    /// The item at a place leaves, and the others keep their order.
+    pub fn remove(&mut self, at: usize) -> Option<T>
+        ensures item { result ≡ slice_get self.old at }
+        ensures rest { OnSome result (self.new ≡ remove self.old at) }
+        ensures none { IfNone result (self.new ≡ self.old) }
+    {
+        self.items.remove(at)
     }
 }

@@ -36,3 +36,17 @@ fn the_first_leaves_a_queue_first(rt: HostRuntime) -> Result<(), Fail> {
     assert_eq!(rt; queue.pop(), None);
     Ok(())
 }
+
+#[test]
+fn an_item_leaves_the_middle_of_a_queue(rt: HostRuntime) -> Result<(), Fail> {
+    let mut queue = Queue::new(rt.alloc());
+    for item in 1..4u8 {
+        assert_eq!(rt; queue.push(item), Ok(()));
+    }
+    assert_eq!(rt; queue.get(1).copied(), Some(2));
+    assert_eq!(rt; queue.remove(1), Some(2));
+    assert_eq!(rt; queue.remove(2), None);
+    assert_eq!(rt; queue.pop(), Some(1));
+    assert_eq!(rt; queue.pop(), Some(3));
+    Ok(())
+}
