@@ -8,17 +8,6 @@ use Rattle.ordered_table.specs.Entries.{value_at, with_value, without}
 abbrev entry : {T : Type 0} → Pid → T → Entry T
 entry p v = record { pid = p; value = v }
 
-again_by : {T : Type 0} (e : Entry T) (es : List (Entry T)) (p : Pid) (v w : T) (b c : Bool) → nat_lt e.pid.0 p.0 ≡ b → (e.pid.0 == p.0) ≡ c → with_value (with_value es p v) p w ≡ with_value es p w →
-    with_value (if b then e ∷ with_value es p v else (if c then entry p v ∷ es else entry p v ∷ e ∷ es)) p w ≡ (if b then e ∷ with_value es p w else (if c then entry p w ∷ es else entry p w ∷ e ∷ es))
-again_by e es p v w true c less same rest = rw (less, rest) refl
-again_by e es p v w false true less same rest = rw (le-ltb p.0 p.0 (omega arith), eq-eqb p.0 p.0 refl) refl
-again_by e es p v w false false less same rest = rw (le-ltb p.0 p.0 (omega arith), eq-eqb p.0 p.0 refl) refl
-
--- the later value counts
-pub with_value_again : {T : Type 0} (es : List (Entry T)) (p : Pid) (v w : T) → with_value (with_value es p v) p w ≡ with_value es p w
-with_value_again [] p v w = rw (le-ltb p.0 p.0 (omega arith), eq-eqb p.0 p.0 refl) refl
-with_value_again (e ∷ es) p v w = again_by e es p v w (nat_lt e.pid.0 p.0) (e.pid.0 == p.0) refl refl (with_value_again es p v w)
-
 absent_by : {T : Type 0} (e : Entry T) (es : List (Entry T)) (p : Pid) (b c : Bool) → (if b then value_at es p else (if c then Some e.value else None)) ≡ None → (value_at es p ≡ None → without es p ≡ es) →
     (if b then e ∷ without es p else (if c then es else e ∷ es)) ≡ e ∷ es
 absent_by e es p true c none rest = rw (rest none) refl

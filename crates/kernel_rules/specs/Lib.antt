@@ -1,4 +1,5 @@
 pub mod Conditions
+pub mod Knows
 pub mod Marks
 pub mod Orphans
 pub mod Permission

@@ -2,8 +2,8 @@
 ghost use Rattle.std.specs.Prelude.{◌≡◌};
 ghost use Rattle.kernel_rules.specs.Conditions.{can_call, is_deliverable, has_default_action, acts_by_default, is_caught, is_stop_signal, is_plain_stop, is_spared, is_discarded, stops, ends, may_happen};
 
-use crate::orphans::is_orphaned;
 use crate::rows::Row;
+use crate::table::ProcessTable;
 use signal_state::is_ignored_by_default;
 use unix_calls::Event;
 use unix_names::{DefaultAct, Signal, default_of};
@@ -35,26 +35,26 @@ fn is_stop_signal(signal: Signal) -> bool
 }
 
 /// Whether a stop signal from a terminal comes to a member of an orphaned group.
-fn is_spared(rows: &[Row], row: &Row, signal: Signal) -> bool
-    ensures { result ≡ is_spared rows.now row.now signal }
+fn is_spared(table: &ProcessTable, row: &Row, signal: Signal) -> bool
+    ensures { result ≡ is_spared table.now row.now signal }
 {
-    is_stop_signal(signal) && signal != Signal::Stop && is_orphaned(rows, row.group)
+    is_stop_signal(signal) && signal != Signal::Stop && table.is_orphaned(row.group)
 }
 
 /// Whether a signal is deliverable to a process and its default action does nothing there.
-pub fn is_discarded(rows: &[Row], row: &Row, signal: Signal) -> bool
-    ensures { result ≡ is_discarded rows.now row.now signal }
+pub fn is_discarded(table: &ProcessTable, row: &Row, signal: Signal) -> bool
+    ensures { result ≡ is_discarded table.now row.now signal }
 {
-    acts_by_default(row, signal) && (is_ignored_by_default(signal) || is_spared(rows, row, signal))
+    acts_by_default(row, signal) && (is_ignored_by_default(signal) || is_spared(table, row, signal))
 }
 
 /// Whether a signal is deliverable to a process and its default action stops it. A stop signal from a terminal stops no member of an orphaned group.
-pub fn stops(rows: &[Row], row: &Row, signal: Signal) -> bool
-    ensures { result ≡ stops rows.now row.now signal }
+pub fn stops(table: &ProcessTable, row: &Row, signal: Signal) -> bool
+    ensures { result ≡ stops table.now row.now signal }
 {
     acts_by_default(row, signal)
         && is_stop_signal(signal)
-        && (signal == Signal::Stop || !is_orphaned(rows, row.group))
+        && (signal == Signal::Stop || !table.is_orphaned(row.group))
 }
 
 fn ends(row: &Row, signal: Signal) -> bool
@@ -64,13 +64,13 @@ fn ends(row: &Row, signal: Signal) -> bool
 }
 
 /// Whether an event may happen to a process.
-pub fn may_happen(rows: &[Row], row: &Row, event: Event) -> bool
-    ensures { result ≡ may_happen rows.now row.now event }
+pub fn may_happen(table: &ProcessTable, row: &Row, event: Event) -> bool
+    ensures { result ≡ may_happen table.now row.now event }
 {
     match event {
         Event::Caught(signal) => is_caught(row, signal),
-        Event::Discarded(signal) => is_discarded(rows, row, signal),
-        Event::StoppedBy(signal) => stops(rows, row, signal),
+        Event::Discarded(signal) => is_discarded(table, row, signal),
+        Event::StoppedBy(signal) => stops(table, row, signal),
         Event::EndedBy(signal) => ends(row, signal),
         Event::Continued => row.sig.due,
         Event::Moved => can_call(row),

@@ -3,10 +3,12 @@ ghost use Rattle.std.specs.Prelude.{◌≡◌};
 ghost use Rattle.std.specs.List.{list_any};
 ghost use Rattle.unix_calls.specs.Calls.{IsName, HasNames};
 ghost use Rattle.kernel_rules.specs.Permission.{may};
-ghost use Rattle.kernel_rules.specs.Rows.{in_group};
+ghost use Rattle.kernel_rules.specs.Rows.{in_group, row_of};
+ghost use Rattle.kernel_rules.specs.Knows.{passes};
 ghost use Rattle.kernel_rules.specs.Refusals.{look_refusal, fork_refusal, selects, is_match, wait_refusal, is_sendable, is_named, is_permitted, is_nobody, is_system, is_forbidden, kill_refusal, target_pid, wanted_group, is_own, is_execed_child, is_in_session_group, is_fixed_in_group, regroup_refusal, setpgid_refusal, setsid_refusal, action_refusal, refusal};
 
 use crate::rows::{Row, count_children, find_named};
+use crate::table::ProcessTable;
 use unix_calls::{Call, Selector, Target, selector_of, target_of};
 use unix_names::{Errno, Pid, SYSTEM, Signal, is_living, number_of, signal_of};
 
@@ -57,16 +59,34 @@ pub fn is_match(caller: &Row, selector: Selector, row: &Row) -> bool
     row.parent == caller.pid && is_selected
 }
 
-fn has_match(rows: &[Row], caller: &Row, selector: Selector) -> bool
-    ensures { result ≡ list_any (is_match caller.now selector) rows.now }
+/// Whether a process is a child of the caller that the selector names.
+fn is_match_at(table: &ProcessTable, caller: &Row, selector: Selector, pid: Pid) -> bool
+    ensures { result ≡ passes (is_match caller.now selector) (row_of table.now pid) }
 {
-    rows.iter().any(|row| is_match(caller, selector, row))
+    match table.find(pid) {
+        Some(row) => is_match(caller, selector, &row),
+        None => false,
+    }
 }
 
-fn wait_refusal(rows: &[Row], caller: &Row, selector: Selector) -> Option<Errno>
-    ensures { result ≡ wait_refusal rows.now caller.now selector }
+fn has_match(table: &ProcessTable, caller: &Row, selector: Selector) -> bool
+    ensures { result ≡ list_any (is_match caller.now selector) table.now }
 {
-    if has_match(rows, caller, selector) {
+    match table.children(caller.pid) {
+        Some(pids) => pids
+            .iter()
+            .any(|pid| is_match_at(table, caller, selector, *pid)),
+        None => table
+            .rows()
+            .iter()
+            .any(|row| is_match(caller, selector, row)),
+    }
+}
+
+fn wait_refusal(table: &ProcessTable, caller: &Row, selector: Selector) -> Option<Errno>
+    ensures { result ≡ wait_refusal table.now caller.now selector }
+{
+    if has_match(table, caller, selector) {
         None
     } else {
         Some(Errno::ECHILD)
@@ -227,14 +247,15 @@ fn action_refusal(signal: Option<Signal>) -> Option<Errno>
 }
 
 /// The first refusal of a call that holds. None where the call is not refused.
-pub fn refusal(rows: &[Row], caller: &Row, call: &Call) -> Option<Errno>
+pub fn refusal(table: &ProcessTable, caller: &Row, call: &Call) -> Option<Errno>
     requires { HasNames call.now }
-    ensures { result ≡ refusal rows.now caller.now call.now }
+    ensures { result ≡ refusal table.now caller.now call.now }
 {
+    let rows = table.rows();
     match *call {
         Call::Getpgid(number) | Call::Getsid(number) => look_refusal(rows, caller, number),
         Call::Fork => fork_refusal(rows, caller),
-        Call::Waitpid { sel, .. } => wait_refusal(rows, caller, selector_of(sel)),
+        Call::Waitpid { sel, .. } => wait_refusal(table, caller, selector_of(sel)),
         Call::Kill { target, sig } => kill_refusal(rows, caller, target_of(target), sig),
         Call::Setpgid { pid, pgid } => setpgid_refusal(rows, caller, pid, pgid),
         Call::Setsid => setsid_refusal(rows, caller),

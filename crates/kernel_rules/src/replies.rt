@@ -2,12 +2,15 @@
 ghost use Rattle.std.specs.Prelude.{◌≡◌};
 ghost use Rattle.std.specs.List.{list_any};
 ghost use Rattle.unix_calls.specs.Calls.{HasNames};
+ghost use Rattle.kernel_rules.specs.Rows.{row_of};
+ghost use Rattle.kernel_rules.specs.Knows.{passes};
 ghost use Rattle.kernel_rules.specs.Replies.{is_fine, is_no_reply, is_number, is_set, is_group_of, is_session_of, uses_number, is_fresh, is_fresh_number, asked_change, report_of, is_ready_match, is_same_status, is_report, reports, is_wait_answer, is_answer, is_same_errno, is_refused_with, allows};
 
 use crate::refusals::{is_match, refusal};
-use crate::rows::{Row, find_named, find_row};
+use crate::rows::{Row, find_named};
+use crate::table::ProcessTable;
 use unix_calls::{Call, Reply, Selector, selector_of};
-use unix_names::{Errno, Life, NOBODY, SYSTEM, SigSet, WaitStatus};
+use unix_names::{Errno, Life, NOBODY, Pid, SYSTEM, SigSet, WaitStatus};
 
 fn is_number(number: u32, reply: &Reply) -> bool
     ensures { result ≡ is_number number reply.now }
@@ -100,16 +103,42 @@ pub fn is_ready_match(
     is_match(caller, selector, row) && report_of(row, stopped, continued).is_some()
 }
 
-fn has_ready_match(
-    rows: &[Row],
+/// Whether a process is a child of the caller that the selector names and that has something to report.
+fn is_ready_match_at(
+    table: &ProcessTable,
+    caller: &Row,
+    selector: Selector,
+    stopped: bool,
+    continued: bool,
+    pid: Pid,
+) -> bool
+    ensures { result ≡ passes (is_ready_match caller.now selector stopped continued) (row_of table.now pid) }
+{
+    match table.find(pid) {
+        Some(row) => is_ready_match(caller, selector, stopped, continued, &row),
+        None => false,
+    }
+}
+
+/// Whether there is a child of the caller that the selector names and that has something to report.
+pub fn has_ready_match(
+    table: &ProcessTable,
     caller: &Row,
     selector: Selector,
     stopped: bool,
     continued: bool,
 ) -> bool
-    ensures { result ≡ list_any (is_ready_match caller.now selector stopped continued) rows.now }
+    ensures { result ≡ list_any (is_ready_match caller.now selector stopped continued) table.now }
 {
-    rows.iter().any(|row| is_ready_match(caller, selector, stopped, continued, row))
+    match table.children(caller.pid) {
+        Some(pids) => pids
+            .iter()
+            .any(|pid| is_ready_match_at(table, caller, selector, stopped, continued, *pid)),
+        None => table
+            .rows()
+            .iter()
+            .any(|row| is_ready_match(caller, selector, stopped, continued, row)),
+    }
 }
 
 fn is_same_status(status: WaitStatus, other: WaitStatus) -> bool
@@ -147,30 +176,31 @@ fn reports(
 }
 
 fn is_wait_answer(
-    rows: &[Row],
+    table: &ProcessTable,
     caller: &Row,
     selector: Selector,
     stopped: bool,
     continued: bool,
     reply: &Reply,
 ) -> bool
-    ensures { result ≡ is_wait_answer rows.now caller.now selector stopped continued reply.now }
+    ensures { result ≡ is_wait_answer table.now caller.now selector stopped continued reply.now }
 {
     match *reply {
         Reply::Child(pid, status) => {
-            let child = find_row(rows, pid);
+            let child = table.find(pid);
             reports(caller, selector, stopped, continued, status, child)
         }
-        Reply::Again => !has_ready_match(rows, caller, selector, stopped, continued),
+        Reply::Again => !has_ready_match(table, caller, selector, stopped, continued),
         _ => false,
     }
 }
 
 /// Whether a call that is not refused may get a reply.
-fn is_answer(rows: &[Row], caller: &Row, call: &Call, reply: &Reply) -> bool
+fn is_answer(table: &ProcessTable, caller: &Row, call: &Call, reply: &Reply) -> bool
     requires { HasNames call.now }
-    ensures { result ≡ is_answer rows.now caller.now call.now reply.now }
+    ensures { result ≡ is_answer table.now caller.now call.now reply.now }
 {
+    let rows = table.rows();
     match *call {
         Call::Getpid | Call::Setsid => is_number(caller.pid.0, reply),
         Call::Getppid => is_number(caller.parent.0, reply),
@@ -181,7 +211,7 @@ fn is_answer(rows: &[Row], caller: &Row, call: &Call, reply: &Reply) -> bool
             sel,
             stopped,
             continued,
-        } => is_wait_answer(rows, caller, selector_of(sel), stopped, continued, reply),
+        } => is_wait_answer(table, caller, selector_of(sel), stopped, continued, reply),
         Call::Exit(_) => matches!(*reply, Reply::NoReply),
         Call::Mask(_) => is_set(caller.sig.mask, reply),
         Call::Pending => is_set(caller.sig.pending, reply),
@@ -209,12 +239,12 @@ fn is_refused_with(errno: Errno, reply: &Reply) -> bool
 }
 
 /// Whether a call may get a reply: its first refusal, or where none holds another reply of the call.
-pub fn allows(rows: &[Row], caller: &Row, call: &Call, reply: &Reply) -> bool
+pub fn allows(table: &ProcessTable, caller: &Row, call: &Call, reply: &Reply) -> bool
     requires { HasNames call.now }
-    ensures { result ≡ allows rows.now caller.now call.now reply.now }
+    ensures { result ≡ allows table.now caller.now call.now reply.now }
 {
-    match refusal(rows, caller, call) {
+    match refusal(table, caller, call) {
         Some(errno) => is_refused_with(errno, reply),
-        None => is_answer(rows, caller, call, reply),
+        None => is_answer(table, caller, call, reply),
     }
 }

@@ -197,3 +197,14 @@ has_value-pids (e ∷ es) (f ∷ fs) p same =
     ∙ (ap (λ (q : Pid). if nat_lt q.0 p.0 then has_value es p else (q.0 == p.0)) first
     ∙ (ap (λ b. if nat_lt f.pid.0 p.0 then b else (f.pid.0 == p.0)) (has_value-pids es fs p others)
     ∙ sym (has_value-in f fs p (nat_lt f.pid.0 p.0) (f.pid.0 == p.0))))
+
+again_by : {T : Type 0} (e : Entry T) (es : List (Entry T)) (p : Pid) (v w : T) (b c : Bool) → nat_lt e.pid.0 p.0 ≡ b → (e.pid.0 == p.0) ≡ c → with_value (with_value es p v) p w ≡ with_value es p w →
+    with_value (if b then e ∷ with_value es p v else (if c then entry p v ∷ es else entry p v ∷ e ∷ es)) p w ≡ (if b then e ∷ with_value es p w else (if c then entry p w ∷ es else entry p w ∷ e ∷ es))
+again_by e es p v w true c less same rest = rw (less, rest) refl
+again_by e es p v w false true less same rest = rw (le-ltb p.0 p.0 (omega arith), eq-eqb p.0 p.0 refl) refl
+again_by e es p v w false false less same rest = rw (le-ltb p.0 p.0 (omega arith), eq-eqb p.0 p.0 refl) refl
+
+-- the later value counts
+pub with_value_again : {T : Type 0} (es : List (Entry T)) (p : Pid) (v w : T) → with_value (with_value es p v) p w ≡ with_value es p w
+with_value_again [] p v w = rw (le-ltb p.0 p.0 (omega arith), eq-eqb p.0 p.0 refl) refl
+with_value_again (e ∷ es) p v w = again_by e es p v w (nat_lt e.pid.0 p.0) (e.pid.0 == p.0) refl refl (with_value_again es p v w)

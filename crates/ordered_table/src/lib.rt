@@ -2,11 +2,13 @@
 #![tactic(auto)]
 
 mod entries;
+mod lists;
 mod queue;
 mod table;
 #[cfg(test)]
 mod tests;
 
 pub use entries::Entry;
+pub use lists::{join, put_members, take_members};
 pub use queue::Queue;
 pub use table::Table;

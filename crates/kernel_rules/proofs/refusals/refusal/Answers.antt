@@ -11,5 +11,5 @@ returns-in-Kill c =
     let names : IsName c.in-Kill.target = subst HasNames c.in-Kill.is c.requires in
     let fits : SFits w64 c.in-Kill.target = search rules in
     c.kill_refusal.ensures
-    ∙ ap (λ t. kill_refusal c.args.rows.now c.args.caller.now t c.in-Kill.sig) (c.target_of.ensures ∙ ap target_of (to_z-of_z w64 _ fits))
-    ∙ sym (ap (λ call. refusal c.args.rows.now c.args.caller.now call) c.in-Kill.is)
+    ∙ ap (λ t. kill_refusal c.args.table.now c.args.caller.now t c.in-Kill.sig) (c.target_of.ensures ∙ ap target_of (to_z-of_z w64 _ fits))
+    ∙ sym (ap (λ call. refusal c.args.table.now c.args.caller.now call) c.in-Kill.is)
