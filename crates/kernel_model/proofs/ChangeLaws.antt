@@ -1,12 +1,18 @@
 -- a change of one process changes its row and no other
-use Rattle.std.proofs.Common.{◌≡◌, true, false, refl, subst}
+use Rattle.std.proofs.Common.{◌≡◌, Bool, true, false, cond, [], refl, subst}
 use Rattle.std.proofs.lemmas.Bool.{eq-eqb}
 use Rattle.unix_names.specs.declared.Pid.{Pid}
+use Rattle.unix_names.specs.States.{is_living}
+use Rattle.signal_state.specs.Sig.{generated_all}
 use Rattle.kernel_rules.specs.declared.rows.Row.{Row}
 use Rattle.kernel_model.specs.declared.changes.Change.{Change}
-use Rattle.kernel_model.specs.declared.changes.Change.TheVariants.{Delivered, Stopped, Continued, Ended, Reported, Execed, Regrouped, Leading, Acting, Masked}
+use Rattle.kernel_model.specs.declared.changes.Change.TheVariants.{Delivered, Stopped, Continued, Ended, Reported, Execed, Regrouped, Leading, Acting, Masked, Signalled}
 use Rattle.kernel_rules.specs.Rows.{is_pid}
 use Rattle.kernel_model.specs.Changes.{changed, changed_at}
+
+nothing_sent : (lives : Bool) (c : Row) → record c { sig = generated_all c.sig (cond lives [] []) } ≡ c
+nothing_sent true c = refl
+nothing_sent false c = refl
 
 pub changed_elsewhere : (p : Pid) (change : Change) (c : Row) → is_pid p c ≡ false → changed_at p change c ≡ c
 changed_elsewhere p (Delivered s) c e = rw e
@@ -19,6 +25,7 @@ changed_elsewhere p (Regrouped g) c e = rw e
 changed_elsewhere p Leading c e = rw e
 changed_elsewhere p (Acting s act) c e = rw e
 changed_elsewhere p (Masked set) c e = rw e
+changed_elsewhere p (Signalled s) c e = rw e (nothing_sent (is_living c.life) c)
 
 same_pid : (c : Row) → is_pid c.pid c ≡ true
 same_pid c = eq-eqb c.pid.0 c.pid.0 refl
@@ -34,6 +41,7 @@ changed_own (Regrouped g) c = rw (same_pid c)
 changed_own Leading c = rw (same_pid c)
 changed_own (Acting s act) c = rw (same_pid c)
 changed_own (Masked set) c = rw (same_pid c)
+changed_own (Signalled s) c = rw (same_pid c)
 
 pub changed_here : (p : Pid) (change : Change) (c : Row) → c.pid ≡ p → changed_at p change c ≡ changed change c
 changed_here p change c e = subst (λ q. changed_at q change c ≡ changed change c) e (changed_own change c)

@@ -9,11 +9,11 @@ use Rattle.unix_names.specs.declared.WaitStatus.TheVariants as status
 use Rattle.signal_state.specs.Sig.{delivered, stopped_by, resumed, after_exec, with_action, with_mask}
 use Rattle.kernel_rules.specs.declared.rows.Row.{Row}
 use Rattle.kernel_model.specs.declared.changes.Change.{Change}
-use Rattle.kernel_model.specs.declared.changes.Change.TheVariants.{Delivered, Stopped, Continued, Ended, Reported, Execed, Regrouped, Leading, Acting, Masked}
+use Rattle.kernel_model.specs.declared.changes.Change.TheVariants.{Delivered, Stopped, Continued, Ended, Reported, Execed, Regrouped, Leading, Acting, Masked, Signalled}
 use Rattle.kernel_rules.specs.Rows.{is_same, is_pid, is_parent}
 use Rattle.kernel_rules.specs.Orphans.{is_link_of, is_orphaned, is_stopped_in}
 use Rattle.kernel_rules.specs.Refusals.{action_refusal}
-use Rattle.kernel_model.specs.Sent.{sent_to_parent}
+use Rattle.kernel_model.specs.Sent.{receives, sent_to_parent}
 use Rattle.kernel_model.specs.Ending.{ended_at, is_ended_child}
 use Rattle.kernel_model.specs.Events.{delivered_at, stopped_at, continued_at}
 use Rattle.kernel_model.specs.Step.{reported_at, execed_at, regrouped_at, leading_at, acting_at, masked_at}
@@ -30,6 +30,7 @@ changed (Regrouped g) c = record c { group = g }
 changed Leading c = record c { group = c.pid; session = c.pid }
 changed (Acting s act) c = record c { sig = with_action c.sig s act }
 changed (Masked set) c = record c { sig = with_mask c.sig set }
+changed (Signalled s) c = receives (λ c. s ∷ []) c
 
 -- the action of the signal may be set
 abbrev pub IsAllowed : Change → Type 0
@@ -48,6 +49,7 @@ changed_at p (Regrouped g) = regrouped_at p g
 changed_at p Leading = leading_at p
 changed_at p (Acting s act) = acting_at p s act
 changed_at p (Masked set) = masked_at p set
+changed_at p (Signalled s) = receives (λ c. if is_pid p c then s ∷ [] else [])
 
 -- the group is one of these
 abbrev pub is_among : List Pid → Pid → Bool

@@ -1,10 +1,11 @@
 // Changes of one process's row, and signals that are generated for rows.
-ghost use Rattle.std.specs.Prelude.{◌≡◌, map};
+ghost use Rattle.std.specs.Prelude.{◌≡◌, ◌<◌, ◌∷◌, [], map, length, slice_index_or, slice_set, IsTrue};
+ghost use Rattle.kernel_rules.specs.Knows.{IsRising, AllStay, is_same_place};
 ghost use Rattle.kernel_rules.specs.Refusals.{action_refusal};
 ghost use Rattle.kernel_model.specs.Changes.{changed, changed_at, IsAllowed, is_among, sent_with};
 ghost use Rattle.kernel_model.specs.Sent.{receives, received, sent_to_parent, sent_by_kill};
 
-use kernel_rules::{Row, is_permitted};
+use kernel_rules::{ProcessTable, Row, is_permitted, is_same_place, place};
 use unix_calls::Target;
 use unix_names::{Act, Life, Pid, SigSet, Signal, WaitStatus, is_living};
 
@@ -21,6 +22,7 @@ pub enum Change {
     Leading,
     Acting(Signal, Act),
     Masked(SigSet),
+    Signalled(Signal),
 }
 
 fn set_action(row: &mut Row, signal: Signal, act: Act)
@@ -28,6 +30,15 @@ fn set_action(row: &mut Row, signal: Signal, act: Act)
     ensures { row.new ≡ changed (Change.Acting signal act) row.old }
 {
     let _ = row.sig.set_action(signal, act);
+}
+
+/// Generates a signal for a row, if it lives.
+fn receive(row: &mut Row, signal: Signal)
+    ensures { row.new ≡ receives (λ c. signal ∷ []) row.old }
+{
+    if is_living(row.life) {
+        row.sig.generate(signal);
+    }
 }
 
 /// Changes a row.
@@ -65,6 +76,7 @@ fn apply(row: &mut Row, change: &Change)
         Change::Masked(set) => {
             let _ = row.sig.set_mask(set);
         }
+        Change::Signalled(signal) => receive(row, signal),
     }
 }
 
@@ -79,14 +91,55 @@ fn apply_at(row: &mut Row, pid: Pid, change: &Change)
     }
 }
 
-/// Changes the row of a process.
+/// Changes the row of a process, which is looked for in every row.
 #[tactic(auto, using(std::proofs::lemmas::List::Edits::map_over_more))]
-pub fn change_row(rows: &mut Vec<Row>, pid: Pid, change: &Change)
+fn change_every(rows: &mut Vec<Row>, pid: Pid, change: &Change)
     requires { IsAllowed change.now }
     ensures { rows.new.items ≡ map (changed_at pid change.now) rows.old.items }
 {
     for row in rows.iter_mut() {
         apply_at(row, pid, change);
+    }
+}
+
+/// Changes the row at a place, if it is that of a process, and tells whether it keeps its group and session and lives as before.
+fn change_at(rows: &mut Vec<Row>, at: usize, pid: Pid, change: &Change) -> bool
+    requires allowed { IsAllowed change.now }
+    requires within { at < length rows.old.items }
+    ensures rows { (d : _) → rows.new.items ≡ slice_set rows.old.items at (changed_at pid change.now (slice_index_or rows.old.items at d)) }
+    ensures stays { (d : _) → result ≡ is_same_place (slice_index_or rows.old.items at d) (changed_at pid change.now (slice_index_or rows.old.items at d)) }
+{
+    let row = &mut rows[at];
+    let before = *row;
+    apply_at(row, pid, change);
+    is_same_place(&before, row)
+}
+
+/// Changes the row of a process, which is found by halves, and tells whether all rows keep their places.
+fn change_found(rows: &mut Vec<Row>, pid: Pid, change: &Change) -> bool
+    requires allowed { IsAllowed change.now }
+    requires rising { IsRising rows.old.items }
+    ensures rows { rows.new.items ≡ map (changed_at pid change.now) rows.old.items }
+    ensures stays { IsTrue result → AllStay (changed_at pid change.now) rows.old.items }
+{
+    let at = place(rows, pid);
+    if at < rows.len() {
+        change_at(rows, at, pid, change)
+    } else {
+        true
+    }
+}
+
+/// Changes the row of a process.
+pub fn change_row(table: &mut ProcessTable, pid: Pid, change: &Change)
+    requires { IsAllowed change.now }
+    ensures { table.new ≡ map (changed_at pid change.now) table.old }
+{
+    if !table.index.rises {
+        change_every(&mut table.rows, pid, change);
+    } else if !change_found(&mut table.rows, pid, change) {
+        let alloc = *table.rows.allocator();
+        table.index.forget(alloc);
     }
 }
 
@@ -99,9 +152,8 @@ fn receive_kill(row: &mut Row, caller: &Row, target: Target, number: u32, signal
     }
 }
 
-/// Generates a signal for each living row that a kill reaches.
 #[tactic(auto, using(std::proofs::lemmas::List::Edits::map_over_more))]
-pub fn signal_targets(
+fn reach_targets(
     rows: &mut Vec<Row>,
     caller: &Row,
     target: Target,
@@ -115,22 +167,24 @@ pub fn signal_targets(
     }
 }
 
-fn receive_as_parent(row: &mut Row, child: &Row)
-    ensures { row.new ≡ receives (sent_to_parent child.now) row.old }
+/// Generates a signal for each living row that a kill reaches.
+pub fn signal_targets(
+    table: &mut ProcessTable,
+    caller: &Row,
+    target: Target,
+    number: u32,
+    signal: Signal,
+)
+    ensures { table.new ≡ received (sent_by_kill caller.now target number (Some signal)) table.old }
 {
-    if is_living(row.life) && row.pid == child.parent {
-        row.sig.generate(Signal::Chld);
-    }
+    reach_targets(&mut table.rows, caller, target, number, signal);
 }
 
 /// Generates a child's signal for its parent.
-#[tactic(auto, using(std::proofs::lemmas::List::Edits::map_over_more))]
-pub fn signal_parent(rows: &mut Vec<Row>, child: &Row)
-    ensures { rows.new.items ≡ received (sent_to_parent child.now) rows.old.items }
+pub fn signal_parent(table: &mut ProcessTable, child: &Row)
+    ensures { table.new ≡ received (sent_to_parent child.now) table.old }
 {
-    for row in rows.iter_mut() {
-        receive_as_parent(row, child);
-    }
+    change_row(table, child.parent, &Change::Signalled(Signal::Chld));
 }
 
 /// Whether a group is one of these.
@@ -154,12 +208,18 @@ fn receive_end(row: &mut Row, ended: &Row, groups: &[Pid])
     }
 }
 
-/// Generates the signals of an end: for the parent, and for the members of these groups.
 #[tactic(auto, using(std::proofs::lemmas::List::Edits::map_over_more))]
-pub fn signal_end(rows: &mut Vec<Row>, ended: &Row, groups: &[Pid])
+fn reach_end(rows: &mut Vec<Row>, ended: &Row, groups: &[Pid])
     ensures { rows.new.items ≡ received (sent_with ended.now groups.now) rows.old.items }
 {
     for row in rows.iter_mut() {
         receive_end(row, ended, groups);
     }
+}
+
+/// Generates the signals of an end: for the parent, and for the members of these groups.
+pub fn signal_end(table: &mut ProcessTable, ended: &Row, groups: &[Pid])
+    ensures { table.new ≡ received (sent_with ended.now groups.now) table.old }
+{
+    reach_end(&mut table.rows, ended, groups);
 }

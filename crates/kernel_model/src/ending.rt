@@ -8,7 +8,7 @@ ghost use Rattle.kernel_rules.specs.Orphans.{is_link, is_stopped_in};
 ghost use Rattle.kernel_model.specs.Ending.{ignores_children, vanishes, with_end, given_up, is_ended_child, without_children, rows_left, after_end};
 
 use crate::changes::{Change, change_row, is_among, signal_end};
-use kernel_rules::{Row, find_row, has_stopped, is_link, is_orphaned};
+use kernel_rules::{ProcessTable, Row, find_row, has_stopped, is_link, is_orphaned};
 use std::alloc::Global;
 use unix_names::{NoMemory, Pid, SYSTEM, Signal, WaitStatus, is_living};
 
@@ -28,19 +28,21 @@ fn vanishes(rows: &[Row], row: &Row) -> bool
     row.parent == SYSTEM || ignores_children(find_row(rows, row.parent))
 }
 
-fn remove_row(rows: &mut Vec<Row>, pid: Pid, removes: bool)
-    ensures { rows.new.items ≡ filter (λ c. not (is_pid pid c && removes)) rows.old.items }
+fn remove_row(table: &mut ProcessTable, pid: Pid, removes: bool)
+    ensures { table.new ≡ filter (λ c. not (is_pid pid c && removes)) table.old }
 {
-    rows.retain(|row| !(row.pid == pid && removes));
+    table.rows.retain(|row| !(row.pid == pid && removes));
+    let alloc = *table.rows.allocator();
+    table.index.forget(alloc);
 }
 
 /// Ends the row of a process, or removes it where nobody waits for it.
-fn end_row(rows: &mut Vec<Row>, row: &Row, status: WaitStatus)
-    ensures { rows.new.items ≡ with_end rows.old.items row.now status }
+fn end_row(table: &mut ProcessTable, row: &Row, status: WaitStatus)
+    ensures { table.new ≡ with_end table.old row.now status }
 {
-    let removes = vanishes(rows, row);
-    change_row(rows, row.pid, &Change::Ended(status));
-    remove_row(rows, row.pid, removes);
+    let removes = vanishes(table.rows(), row);
+    change_row(table, row.pid, &Change::Ended(status));
+    remove_row(table, row.pid, removes);
 }
 
 fn give_up(row: &mut Row, pid: Pid)
@@ -51,9 +53,8 @@ fn give_up(row: &mut Row, pid: Pid)
     }
 }
 
-/// Gives each child of a process to the system process.
 #[tactic(auto, using(std::proofs::lemmas::List::Edits::map_over_more))]
-fn give_up_all(rows: &mut Vec<Row>, pid: Pid)
+fn give_up_every(rows: &mut Vec<Row>, pid: Pid)
     ensures { rows.new.items ≡ map (given_up pid) rows.old.items }
 {
     for row in rows.iter_mut() {
@@ -61,26 +62,39 @@ fn give_up_all(rows: &mut Vec<Row>, pid: Pid)
     }
 }
 
-fn remove_ended_children(rows: &mut Vec<Row>, pid: Pid)
-    ensures { rows.new.items ≡ filter (λ c. not (is_ended_child pid c)) rows.old.items }
+/// Gives each child of a process to the system process.
+fn give_up_all(table: &mut ProcessTable, pid: Pid)
+    ensures { table.new ≡ map (given_up pid) table.old }
 {
-    rows.retain(|row| !(row.parent == pid && !is_living(row.life)));
+    give_up_every(&mut table.rows, pid);
+    let alloc = *table.rows.allocator();
+    table.index.forget(alloc);
+}
+
+fn remove_ended_children(table: &mut ProcessTable, pid: Pid)
+    ensures { table.new ≡ filter (λ c. not (is_ended_child pid c)) table.old }
+{
+    table
+        .rows
+        .retain(|row| !(row.parent == pid && !is_living(row.life)));
+    let alloc = *table.rows.allocator();
+    table.index.forget(alloc);
 }
 
 /// Removes each ended child of a process, and gives the living ones to the system process.
-fn leave_children(rows: &mut Vec<Row>, pid: Pid)
-    ensures { rows.new.items ≡ without_children pid rows.old.items }
+fn leave_children(table: &mut ProcessTable, pid: Pid)
+    ensures { table.new ≡ without_children pid table.old }
 {
-    remove_ended_children(rows, pid);
-    give_up_all(rows, pid);
+    remove_ended_children(table, pid);
+    give_up_all(table, pid);
 }
 
 /// The first two effects of an end: on the row, and on the children.
-fn leave(rows: &mut Vec<Row>, row: &Row, status: WaitStatus)
-    ensures { rows.new.items ≡ rows_left rows.old.items row.now status }
+fn leave(table: &mut ProcessTable, row: &Row, status: WaitStatus)
+    ensures { table.new ≡ rows_left table.old row.now status }
 {
-    end_row(rows, row, status);
-    leave_children(rows, row.pid);
+    end_row(table, row, status);
+    leave_children(table, row.pid);
 }
 
 /// The ended children of a process.
@@ -137,13 +151,14 @@ fn keep_left(groups: &mut Vec<Pid>, rows: &[Row])
 }
 
 /// Ends a process: its row, its children, the signal for its parent, and those for the groups that it leaves orphaned.
-pub fn end(rows: &mut Vec<Row>, row: &Row, status: WaitStatus) -> Result<(), NoMemory>
-    ensures ok { OnOk result (rows.new.items ≡ after_end rows.old.items row.now status) }
-    ensures err { OnErr result (rows.new.items ≡ rows.old.items) }
+pub fn end(table: &mut ProcessTable, row: &Row, status: WaitStatus) -> Result<(), NoMemory>
+    ensures ok { OnOk result (table.new ≡ after_end table.old row.now status) }
+    ensures err { OnErr result (table.new ≡ table.old) }
 {
-    let mut groups = groups_at_risk(*rows.allocator(), rows, row.pid)?;
-    leave(rows, row, status);
-    keep_left(&mut groups, rows);
-    signal_end(rows, row, groups.as_slice());
+    let alloc = *table.rows.allocator();
+    let mut groups = groups_at_risk(alloc, table.rows(), row.pid)?;
+    leave(table, row, status);
+    keep_left(&mut groups, table.rows());
+    signal_end(table, row, groups.as_slice());
     Ok(())
 }

@@ -7,7 +7,7 @@ ghost use Rattle.kernel_model.specs.Legal.{boot, booted, joined_row, first_row, 
 use crate::calls::call;
 use crate::events::happen;
 use crate::verdict::{Rule, Verdict};
-use kernel_rules::{Row, allows, can_call, find_row, may_happen};
+use kernel_rules::{ProcessTable, Row, allows, can_call, may_happen};
 use signal_state::Sig;
 use std::alloc::Global;
 use std::marker::Model;
@@ -17,7 +17,7 @@ use unix_names::{Life, NoMemory, Pid, SYSTEM, is_living};
 /// The table of the one kernel, which contracts see as the list of its rows in order of creation.
 #[derive(Debug, Drop)]
 pub struct Kernel {
-    rows: Vec<Row>,
+    table: ProcessTable,
 }
 
 impl Model for Kernel {
@@ -26,7 +26,7 @@ impl Model for Kernel {
 
     ghost Value = { List Row };
 
-    ghost view = { λ kernel. kernel.rows.items };
+    ghost view = { λ kernel. kernel.table };
 }
 
 /// The row of a start, whose earlier ones have these rows. It joins the group and session of one of them, or leads its own.
@@ -51,34 +51,34 @@ fn first_row(earlier: &[Row], start: &Start) -> Row
     }
 }
 
-fn boot_rows(alloc: Global, starts: &[Start]) -> Result<Vec<Row>, NoMemory>
-    ensures { IfOk result (λ rows. rows.items ≡ booted [] starts.now) }
+fn boot_table(alloc: Global, starts: &[Start]) -> Result<ProcessTable, NoMemory>
+    ensures { IfOk result (λ table. table ≡ booted [] starts.now) }
 {
-    let mut rows = Vec::new(alloc);
+    let mut table = ProcessTable::new(alloc);
     for start in starts {
-        let row = first_row(rows.as_slice(), start);
-        rows.push(row)?;
+        let row = first_row(table.rows(), start);
+        table.push(row)?;
     }
-    Ok(rows)
+    Ok(table)
 }
 
-fn call_verdict(rows: &[Row], row: &Row, call: &Call, reply: &Reply) -> Verdict
+fn call_verdict(table: &ProcessTable, row: &Row, call: &Call, reply: &Reply) -> Verdict
     requires { HasNames call.now }
-    ensures { result ≡ call_verdict rows.now row.now call.now reply.now }
+    ensures { result ≡ call_verdict table.now row.now call.now reply.now }
 {
     if !can_call(row) {
         Verdict::Illegal(Rule::SignalFirst)
-    } else if allows(rows, row, call, reply) {
+    } else if allows(table, row, call, reply) {
         Verdict::Legal
     } else {
         Verdict::Illegal(Rule::WrongReply)
     }
 }
 
-fn event_verdict(rows: &[Row], row: &Row, event: Event) -> Verdict
-    ensures { result ≡ event_verdict rows.now row.now event }
+fn event_verdict(table: &ProcessTable, row: &Row, event: Event) -> Verdict
+    ensures { result ≡ event_verdict table.now row.now event }
 {
-    if may_happen(rows, row, event) {
+    if may_happen(table, row, event) {
         Verdict::Legal
     } else if let Event::Moved = event {
         Verdict::Illegal(Rule::SignalFirst)
@@ -87,30 +87,30 @@ fn event_verdict(rows: &[Row], row: &Row, event: Event) -> Verdict
     }
 }
 
-fn row_verdict(rows: &[Row], row: &Row, entry: &Entry) -> Verdict
+fn row_verdict(table: &ProcessTable, row: &Row, entry: &Entry) -> Verdict
     requires { EntryHasNames entry.now }
-    ensures { result ≡ row_verdict rows.now row.now entry.now }
+    ensures { result ≡ row_verdict table.now row.now entry.now }
 {
     match entry {
-        Entry::Called { call, reply, .. } => call_verdict(rows, row, call, reply),
-        Entry::Happened { event, .. } => event_verdict(rows, row, *event),
+        Entry::Called { call, reply, .. } => call_verdict(table, row, call, reply),
+        Entry::Happened { event, .. } => event_verdict(table, row, *event),
     }
 }
 
 /// Changes the table as an entry says that is legal there.
-fn take_step(rows: &mut Vec<Row>, row: &Row, entry: &Entry) -> Result<(), NoMemory>
+fn take_step(table: &mut ProcessTable, row: &Row, entry: &Entry) -> Result<(), NoMemory>
     requires names { EntryHasNames entry.now }
-    requires legal { verdict_at rows.old.items (Some row.now) entry.now ≡ Verdict.Legal }
-    ensures ok { OnOk result (rows.new.items ≡ row_after rows.old.items row.now entry.now) }
-    ensures err { OnErr result (rows.new.items ≡ rows.old.items) }
+    requires legal { verdict_at table.old (Some row.now) entry.now ≡ Verdict.Legal }
+    ensures ok { OnOk result (table.new ≡ row_after table.old row.now entry.now) }
+    ensures err { OnErr result (table.new ≡ table.old) }
 {
     match entry {
         Entry::Called {
             call: asked,
             reply,
             ..
-        } => call(rows, row, asked, reply),
-        Entry::Happened { event, .. } => happen(rows, row, *event),
+        } => call(table, row, asked, reply),
+        Entry::Happened { event, .. } => happen(table, row, *event),
     }
 }
 
@@ -124,29 +124,29 @@ pub fn process_of(entry: &Entry) -> Pid
     }
 }
 
-fn living_verdict(rows: &[Row], row: &Row, entry: &Entry) -> Verdict
+fn living_verdict(table: &ProcessTable, row: &Row, entry: &Entry) -> Verdict
     requires { EntryHasNames entry.now }
-    ensures { result ≡ verdict_at rows.now (Some row.now) entry.now }
+    ensures { result ≡ verdict_at table.now (Some row.now) entry.now }
 {
     if is_living(row.life) {
-        row_verdict(rows, row, entry)
+        row_verdict(table, row, entry)
     } else {
         Verdict::Illegal(Rule::UnknownProcess)
     }
 }
 
-fn step_rows(rows: &mut Vec<Row>, entry: &Entry) -> Result<Verdict, NoMemory>
+fn step_table(table: &mut ProcessTable, entry: &Entry) -> Result<Verdict, NoMemory>
     requires { EntryHasNames entry.now }
-    ensures verdict { IfOk result (λ v. v ≡ verdict rows.old.items entry.now) }
-    ensures legal { result ≡ Ok Verdict.Legal → rows.new.items ≡ after rows.old.items entry.now }
-    ensures illegal { result ≢ Ok Verdict.Legal → rows.new.items ≡ rows.old.items }
+    ensures verdict { IfOk result (λ v. v ≡ verdict table.old entry.now) }
+    ensures legal { result ≡ Ok Verdict.Legal → table.new ≡ after table.old entry.now }
+    ensures illegal { result ≢ Ok Verdict.Legal → table.new ≡ table.old }
 {
-    let Some(row) = find_row(rows, process_of(entry)) else {
+    let Some(row) = table.find(process_of(entry)) else {
         return Ok(Verdict::Illegal(Rule::UnknownProcess));
     };
-    let verdict = living_verdict(rows, &row, entry);
+    let verdict = living_verdict(table, &row, entry);
     if let Verdict::Legal = verdict {
-        take_step(rows, &row, entry)?;
+        take_step(table, &row, entry)?;
     }
     Ok(verdict)
 }
@@ -156,15 +156,29 @@ impl Kernel {
     pub fn boot(alloc: Global, world: &World) -> Result<Kernel, NoMemory>
         ensures { IfOk result (λ kernel. kernel ≡ boot world.now) }
     {
-        let rows = boot_rows(alloc, world.starts.as_slice())?;
-        Ok(Kernel { rows })
+        let table = boot_table(alloc, world.starts.as_slice())?;
+        Ok(Kernel { table })
     }
 
     /// The rows in order of creation.
     pub fn rows(&self) -> &[Row]
         ensures { result.now ≡ self.now }
     {
-        self.rows.as_slice()
+        self.table.rows()
+    }
+
+    /// The table of processes.
+    pub fn table(&self) -> &ProcessTable
+        ensures { result.now ≡ self.now }
+    {
+        &self.table
+    }
+
+    /// Notes whether a group is orphaned, so that it need not be found out again while no row comes, goes, ends or changes its group or parent.
+    pub fn note_orphaned(&mut self, group: Pid)
+        ensures { self.new ≡ self.old }
+    {
+        self.table.note_orphaned(group);
     }
 
     /// Steps, if the entry is legal: the table is then the one after it. Otherwise the answer names the first rule that fails, and the table stays. It stays too where memory runs out.
@@ -174,6 +188,6 @@ impl Kernel {
         ensures legal { result ≡ Ok Verdict.Legal → self.new ≡ after self.old entry.now }
         ensures illegal { result ≢ Ok Verdict.Legal → self.new ≡ self.old }
     {
-        step_rows(&mut self.rows, entry)
+        step_table(&mut self.table, entry)
     }
 }

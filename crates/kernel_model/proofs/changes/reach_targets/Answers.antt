@@ -1,7 +1,7 @@
 use Rattle.std.proofs.Common.{◌∙◌, ap, sym, arith, slice_set, Some}
 use Rattle.std.proofs.lemmas.List.Edits.{map_over_more}
 use Rattle.kernel_model.specs.Sent.{receives, sent_by_kill}
-use Rattle.kernel_model.proofs.changes.signal_targets.Goals as goal
+use Rattle.kernel_model.proofs.changes.reach_targets.Goals as goal
 
 pub loop-row-preserved : goal.loop-row-preserved
 loop-row-preserved c =

@@ -2,7 +2,7 @@ use Rattle.std.proofs.Common.{◌∙◌, ap, sym, arith, slice_set}
 use Rattle.std.proofs.lemmas.List.Edits.{map_over_more}
 use Rattle.kernel_model.specs.Changes.{sent_with}
 use Rattle.kernel_model.specs.Sent.{receives}
-use Rattle.kernel_model.proofs.changes.signal_end.Goals as goal
+use Rattle.kernel_model.proofs.changes.reach_end.Goals as goal
 
 pub loop-row-preserved : goal.loop-row-preserved
 loop-row-preserved c =

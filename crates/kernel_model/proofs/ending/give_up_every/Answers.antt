@@ -1,7 +1,7 @@
 use Rattle.std.proofs.Common.{◌∙◌, ap, sym, arith, slice_set}
 use Rattle.std.proofs.lemmas.List.Edits.{map_over_more}
 use Rattle.kernel_model.specs.Ending.{given_up}
-use Rattle.kernel_model.proofs.ending.give_up_all.Goals as goal
+use Rattle.kernel_model.proofs.ending.give_up_every.Goals as goal
 
 pub loop-row-preserved : goal.loop-row-preserved
 loop-row-preserved c =

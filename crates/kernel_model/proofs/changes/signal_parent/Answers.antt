@@ -1,9 +1,0 @@
-use Rattle.std.proofs.Common.{◌∙◌, ap, sym, arith, slice_set}
-use Rattle.std.proofs.lemmas.List.Edits.{map_over_more}
-use Rattle.kernel_model.specs.Sent.{receives, sent_to_parent}
-use Rattle.kernel_model.proofs.changes.signal_parent.Goals as goal
-
-pub loop-row-preserved : goal.loop-row-preserved
-loop-row-preserved c =
-    ap (slice_set c.loop-row.row-items c.loop-row.row-index) (c.receive_as_parent.ensures ∙ ap (receives (sent_to_parent c.args.child.now)) (sym c.row-item.is))
-    ∙ map_over_more (receives (sent_to_parent c.args.child.now)) _ _ _ c.row-item.result (omega arith) c.loop-row.invariant c.row-item.is
