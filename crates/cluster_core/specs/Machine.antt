@@ -18,7 +18,8 @@ use Rattle.unix_calls.specs.declared.Target.{Target}
 use Rattle.unix_calls.specs.declared.Target.TheVariants.{OwnGroup, One, InGroup}
 use Rattle.unix_calls.specs.declared.World.{World}
 use Rattle.unix_calls.specs.Calls.{target_of}
-use Rattle.ordered_table.specs.declared.entries.Entry.{Entry as Valued}
+pub use Rattle.ordered_table.specs.Lists.{members_of, joined}
+use Rattle.ordered_table.specs.Lists.{Lists}
 use Rattle.ordered_table.specs.Entries.{value_at, with_value, without, pids_of}
 use Rattle.proc_image.specs.declared.image.Image.{Image}
 use Rattle.proc_image.specs.Scripts.{next_child, stands_again}
@@ -36,18 +37,11 @@ use Rattle.cluster_core.specs.declared.machine.Machine.{Machine}
 -- ---- members of groups
 -- the members of each group, in the order in which they last joined it; who has gone may still be listed
 abbrev pub Groups : Type 0
-Groups = List (Valued (List Pid))
-
-abbrev pub members_of : Groups → Pid → List Pid
-members_of groups g = unwrap_or (value_at groups g) []
+Groups = Lists
 
 -- all but one
 abbrev pub others : Pid → List Pid → List Pid
 others p pids = filter (λ q. not (is_same q p)) pids
-
--- a process joins a group, as its last member
-abbrev pub joined : Pid → Pid → Groups → Groups
-joined g p groups = with_value groups g (members_of groups g ++ p ∷ [])
 
 -- a process leaves a group
 abbrev pub left : Pid → Pid → Groups → Groups

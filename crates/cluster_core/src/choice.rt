@@ -5,21 +5,21 @@ ghost use Rattle.proc_image.specs.Images.{JobHasNames};
 ghost use Rattle.cluster_core.specs.Machine.{asked, chosen};
 
 use kernel_choice::{first_event, reply_of};
-use kernel_rules::Row;
+use kernel_rules::{ProcessTable, Row};
 use unix_calls::{Entry, Event, Job};
 use unix_names::{NoMemory, Pid, Seq};
 
 /// The entry of a job: its call with the one reply, or that it is moved. None for a look at the signals.
-fn asked(rows: &[Row], row: &Row, serial: u32, job: &Job) -> Option<Entry>
+fn asked(table: &ProcessTable, row: &Row, serial: u32, job: &Job) -> Option<Entry>
     requires { JobHasNames job.now }
-    ensures entry { result ≡ asked rows.now row.now serial job.now }
+    ensures entry { result ≡ asked table.now row.now serial job.now }
     ensures names { IfSome result EntryHasNames }
 {
     match job {
         Job::Ask(call, _) => Some(Entry::Called {
             caller: row.pid,
             call: *call,
-            reply: reply_of(rows, row, call, Pid(serial)),
+            reply: reply_of(table, row, call, Pid(serial)),
         }),
         Job::Look => None,
         Job::Push(_) => Some(Entry::Happened {
@@ -30,17 +30,17 @@ fn asked(rows: &[Row], row: &Row, serial: u32, job: &Job) -> Option<Entry>
 }
 
 /// The event that comes first, or else the job's entry. A fork would make the process of the serial number.
-pub fn chosen(rows: &[Row], row: &Row, serial: u32, job: &Job) -> Option<Entry>
+pub fn chosen(table: &ProcessTable, row: &Row, serial: u32, job: &Job) -> Option<Entry>
     requires { JobHasNames job.now }
-    ensures entry { result ≡ chosen rows.now row.now serial job.now }
+    ensures entry { result ≡ chosen table.now row.now serial job.now }
     ensures names { IfSome result EntryHasNames }
 {
-    match first_event(rows, row) {
+    match first_event(table, row) {
         Some(event) => Some(Entry::Happened {
             pid: row.pid,
             event,
         }),
-        None => asked(rows, row, serial, job),
+        None => asked(table, row, serial, job),
     }
 }
 

@@ -1,12 +1,11 @@
 // The members of each group, in the order in which they last joined it.
-ghost use Rattle.std.specs.Prelude.{◌≡◌, [], IfOk, OnOk};
+ghost use Rattle.std.specs.Prelude.{◌≡◌, IfOk, OnOk};
 ghost use Rattle.unix_calls.specs.Calls.{HasNames, EntryHasNames, IsName};
-ghost use Rattle.ordered_table.specs.Entries.{with_value};
-ghost use Rattle.cluster_core.specs.Machine.{members_of, others, joined, left, moved, row_moved, groups_after, groups_after_call, groups_after_fork, groups_after_setpgid, groups_after_setsid};
+ghost use Rattle.cluster_core.specs.Machine.{others, left, moved, row_moved, groups_after, groups_after_call, groups_after_fork, groups_after_setpgid, groups_after_setsid};
 ghost use Rattle.cluster_core.specs.Run.{first_groups};
 
 use kernel_rules::{Row, find_named, wanted_group};
-use ordered_table::Table;
+use ordered_table::{Table, join, put_members, take_members};
 use std::alloc::Global;
 use unix_calls::{Call, Entry, Reply};
 use unix_names::{NoMemory, Pid, Seq};
@@ -14,44 +13,13 @@ use unix_names::{NoMemory, Pid, Seq};
 /// The members of each group. Who has gone may still be listed.
 pub type Groups = Table<Seq<Pid>>;
 
-/// Takes the members of a group out, to be put back.
-fn take_members(alloc: Global, groups: &mut Groups, group: Pid) -> Result<Seq<Pid>, NoMemory>
-    ensures members { IfOk result (λ members. members ≡ members_of groups.old group) }
-    ensures emptied { OnOk result (groups.new ≡ with_value groups.old group []) }
-{
-    match groups.put(group, Seq::new(alloc)) {
-        Ok(Some(members)) => Ok(members),
-        Ok(None) => Ok(Seq::new(alloc)),
-        Err(_) => Err(NoMemory),
-    }
-}
-
-fn put_members(groups: &mut Groups, group: Pid, members: Seq<Pid>) -> Result<(), NoMemory>
-    ensures { OnOk result (groups.new ≡ with_value groups.old group members) }
-{
-    match groups.put(group, members) {
-        Ok(_) => Ok(()),
-        Err(_) => Err(NoMemory),
-    }
-}
-
-/// A process joins a group, as its last member.
-#[tactic(auto, using(crate::proofs::GroupLaws::with_value_again))]
-pub fn join(alloc: Global, groups: &mut Groups, group: Pid, pid: Pid) -> Result<(), NoMemory>
-    ensures { OnOk result (groups.new ≡ joined group pid groups.old) }
-{
-    let mut members = take_members(alloc, groups, group)?;
-    members.push(pid)?;
-    put_members(groups, group, members)
-}
-
 fn remove_member(members: &mut Seq<Pid>, pid: Pid)
     ensures { members.new ≡ others pid members.old }
 {
     members.retain(|member| *member != pid);
 }
 
-#[tactic(auto, using(crate::proofs::GroupLaws::with_value_again))]
+#[tactic(auto, using(ordered_table::proofs::MapLaws::with_value_again))]
 fn leave(alloc: Global, groups: &mut Groups, group: Pid, pid: Pid) -> Result<(), NoMemory>
     ensures { OnOk result (groups.new ≡ left group pid groups.old) }
 {

@@ -10,7 +10,6 @@ use crate::choice::{chosen, record};
 use crate::groups::first_groups;
 use crate::machine::Machine;
 use kernel_model::Kernel;
-use kernel_rules::find_row;
 use ordered_table::{Queue, Table};
 use proc_image::Image;
 use std::alloc::Global;
@@ -115,10 +114,11 @@ impl Played {
         requires room { self.old.machine.serial + 1 < 2 ^ 32 }
         ensures { OnOk result (self.new ≡ played world.now image job.now self.old.machine.ready self.old) }
     {
-        let Some(row) = find_row(self.machine.kernel.rows(), image.pid) else {
+        let Some(row) = self.machine.kernel.look(image.pid) else {
             return Ok(());
         };
-        match chosen(self.machine.kernel.rows(), &row, self.machine.serial, job) {
+        let chosen = chosen(self.machine.kernel.table(), &row, self.machine.serial, job);
+        match chosen {
             Some(entry) => {
                 self.machine.commit(alloc, world, image, &row, &entry)?;
                 record(&mut self.history, &entry)

@@ -4,18 +4,18 @@ ghost use Rattle.signal_state.specs.Sig.{deliverable, IsClear};
 ghost use Rattle.kernel_rules.specs.Conditions.{is_deliverable};
 ghost use Rattle.kernel_choice.specs.Choice.{event_of, least_deliverable, first_event};
 
-use kernel_rules::{Row, is_caught, is_discarded, stops};
+use kernel_rules::{ProcessTable, Row, is_caught, is_discarded, stops};
 use unix_calls::Event;
 use unix_names::Signal;
 
-fn event_of(rows: &[Row], row: &Row, signal: Signal) -> Event
-    ensures { result ≡ event_of rows.now row.now signal }
+fn event_of(table: &ProcessTable, row: &Row, signal: Signal) -> Event
+    ensures { result ≡ event_of table.now row.now signal }
 {
     if is_caught(row, signal) {
         Event::Caught(signal)
-    } else if is_discarded(rows, row, signal) {
+    } else if is_discarded(table, row, signal) {
         Event::Discarded(signal)
-    } else if stops(rows, row, signal) {
+    } else if stops(table, row, signal) {
         Event::StoppedBy(signal)
     } else {
         Event::EndedBy(signal)
@@ -23,8 +23,8 @@ fn event_of(rows: &[Row], row: &Row, signal: Signal) -> Event
 }
 
 /// The event that happens first to a process: killing, then continuing, then that of the deliverable signal with the least number. None exactly where nothing is deliverable and no continuing is due.
-pub fn first_event(rows: &[Row], row: &Row) -> Option<Event>
-    ensures event { result ≡ first_event rows.now row.now }
+pub fn first_event(table: &ProcessTable, row: &Row) -> Option<Event>
+    ensures event { result ≡ first_event table.now row.now }
     ensures none { IsNone result ↔ IsClear row.now.sig }
 {
     let deliverable = row.sig.deliverable();
@@ -35,5 +35,5 @@ pub fn first_event(rows: &[Row], row: &Row) -> Option<Event>
         return Some(Event::Continued);
     }
     let signal = deliverable.least()?;
-    Some(event_of(rows, row, signal))
+    Some(event_of(table, row, signal))
 }

@@ -4,7 +4,9 @@ ghost use Rattle.unix_calls.specs.Calls.{HasNames};
 ghost use Rattle.kernel_rules.specs.Replies.{is_ready_match};
 ghost use Rattle.kernel_choice.specs.Choice.{group_reply, session_reply, child_reply, answer_of, reply_of};
 
-use kernel_rules::{Row, find_named, is_ready_match, refusal, report_of};
+use kernel_rules::{
+    ProcessTable, Row, find_named, has_ready_match, is_ready_match, refusal, report_of,
+};
 use unix_calls::{Call, Reply, Selector, selector_of};
 use unix_names::{Errno, Pid};
 
@@ -38,8 +40,7 @@ fn child_reply(stopped: bool, continued: bool, child: Option<Row>) -> Reply
     }
 }
 
-/// The first row of the table that is that of a child of the caller that the selector names and that has something to report.
-fn first_ready(
+fn first_ready_row(
     rows: &[Row],
     caller: &Row,
     selector: Selector,
@@ -51,22 +52,39 @@ fn first_ready(
     rows.iter().copied().find(|row| is_ready_match(caller, selector, stopped, continued, row))
 }
 
-fn answer_of(rows: &[Row], caller: &Row, call: &Call, fresh: Pid) -> Reply
+/// The first row of the table that is that of a child of the caller that the selector names and that has something to report.
+fn first_ready(
+    table: &ProcessTable,
+    caller: &Row,
+    selector: Selector,
+    stopped: bool,
+    continued: bool,
+) -> Option<Row>
+    ensures { result ≡ find (is_ready_match caller.now selector stopped continued) table.now }
+{
+    if has_ready_match(table, caller, selector, stopped, continued) {
+        first_ready_row(table.rows(), caller, selector, stopped, continued)
+    } else {
+        None
+    }
+}
+
+fn answer_of(table: &ProcessTable, caller: &Row, call: &Call, fresh: Pid) -> Reply
     requires { HasNames call.now }
-    ensures { result ≡ answer_of rows.now caller.now call.now fresh.0 }
+    ensures { result ≡ answer_of table.now caller.now call.now fresh.0 }
 {
     match *call {
         Call::Getpid | Call::Setsid => Reply::Number(caller.pid.0),
         Call::Getppid => Reply::Number(caller.parent.0),
-        Call::Getpgid(number) => group_reply(find_named(rows, caller, number)),
-        Call::Getsid(number) => session_reply(find_named(rows, caller, number)),
+        Call::Getpgid(number) => group_reply(find_named(table.rows(), caller, number)),
+        Call::Getsid(number) => session_reply(find_named(table.rows(), caller, number)),
         Call::Fork => Reply::Number(fresh.0),
         Call::Waitpid {
             sel,
             stopped,
             continued,
         } => {
-            let child = first_ready(rows, caller, selector_of(sel), stopped, continued);
+            let child = first_ready(table, caller, selector_of(sel), stopped, continued);
             child_reply(stopped, continued, child)
         }
         Call::Exit(_) => Reply::NoReply,
@@ -81,12 +99,12 @@ fn answer_of(rows: &[Row], caller: &Row, call: &Call, fresh: Pid) -> Reply
 }
 
 /// The reply of a call: its first refusal that holds, or else its answer. A fork's answer is the fresh pid, which no other call reads; a wait's is of the first row of the table that is ready.
-pub fn reply_of(rows: &[Row], caller: &Row, call: &Call, fresh: Pid) -> Reply
+pub fn reply_of(table: &ProcessTable, caller: &Row, call: &Call, fresh: Pid) -> Reply
     requires { HasNames call.now }
-    ensures { result ≡ reply_of rows.now caller.now call.now fresh.0 }
+    ensures { result ≡ reply_of table.now caller.now call.now fresh.0 }
 {
-    match refusal(rows, caller, call) {
+    match refusal(table, caller, call) {
         Some(errno) => Reply::Refused(errno),
-        None => answer_of(rows, caller, call, fresh),
+        None => answer_of(table, caller, call, fresh),
     }
 }

@@ -1,10 +1,11 @@
 // One table: 2 has the children 3, which has ended, 4, which has stopped, and 5, which runs.
 use crate::{first_event, reply_of};
-use kernel_rules::Row;
+use kernel_rules::{ProcessTable, Row};
 use signal_state::Sig;
+use std::alloc::Global;
 use std::test::Fail;
 use unix_calls::{Call, Event, Reply};
-use unix_names::{Act, Errno, Life, Pid, SYSTEM, SigSet, Signal, WaitStatus};
+use unix_names::{Act, Errno, Life, NoMemory, Pid, SYSTEM, SigSet, Signal, WaitStatus};
 
 fn row(pid: u32, parent: Pid, group: u32, life: Life) -> Row {
     Row {
@@ -20,32 +21,42 @@ fn row(pid: u32, parent: Pid, group: u32, life: Life) -> Row {
     }
 }
 
+fn table(alloc: Global, rows: &[Row]) -> Result<ProcessTable, NoMemory> {
+    let mut table = ProcessTable::new(alloc);
+    for row in rows {
+        table.push(*row)?;
+    }
+    Ok(table)
+}
+
+// The first event of a process that is alone.
+fn first(alloc: Global, own: &Row) -> Result<Option<Event>, NoMemory> {
+    Ok(first_event(&table(alloc, &[*own])?, own))
+}
+
 #[test]
 fn events_in_order(rt: HostRuntime) -> Result<(), Fail> {
     let mut own = row(2, SYSTEM, 2, Life::Runs);
-    assert_eq!(rt; first_event(&[own], &own), None);
+    assert_eq!(rt; first(rt.alloc(), &own)?, None);
     own.sig.generate(Signal::Term);
     own.sig.generate(Signal::Int);
     own.sig.generate(Signal::Tstp);
-    assert_eq!(rt;
-        first_event(&[own], &own),
-        Some(Event::EndedBy(Signal::Int))
-    );
+    assert_eq!(rt; first(rt.alloc(), &own)?, Some(Event::EndedBy(Signal::Int)));
     let _ = own.sig.set_action(Signal::Int, Act::Catch);
-    assert_eq!(rt; first_event(&[own], &own), Some(Event::Caught(Signal::Int)));
+    assert_eq!(rt; first(rt.alloc(), &own)?, Some(Event::Caught(Signal::Int)));
     own.sig
         .set_mask(SigSet::empty().with(Signal::Int).with(Signal::Term));
     assert_eq!(rt;
-        first_event(&[own], &own),
+        first(rt.alloc(), &own)?,
         Some(Event::Discarded(Signal::Tstp))
     );
     own.sig.stop(Signal::Stop);
-    assert_eq!(rt; first_event(&[own], &own), None);
+    assert_eq!(rt; first(rt.alloc(), &own)?, None);
     own.sig.generate(Signal::Cont);
-    assert_eq!(rt; first_event(&[own], &own), Some(Event::Continued));
+    assert_eq!(rt; first(rt.alloc(), &own)?, Some(Event::Continued));
     own.sig.generate(Signal::Kill);
     assert_eq!(rt;
-        first_event(&[own], &own),
+        first(rt.alloc(), &own)?,
         Some(Event::EndedBy(Signal::Kill))
     );
     Ok(())
@@ -58,6 +69,7 @@ fn replies_of_calls(rt: HostRuntime) -> Result<(), Fail> {
     let mut stopped = row(4, Pid(2), 4, Life::Stopped);
     stopped.change = Some(WaitStatus::Stopped(Signal::Stop));
     let rows = [caller, stopped, ended, row(5, Pid(2), 5, Life::Runs)];
+    let rows = table(rt.alloc(), &rows)?;
     let wait = Call::Waitpid {
         sel: -1,
         stopped: false,

@@ -2,6 +2,7 @@
 ghost use Rattle.std.specs.Prelude.{◌≡◌, ◌≢◌, [], IfOk, OnOk, OnErr};
 ghost use Rattle.unix_calls.specs.Calls.{HasNames, EntryHasNames};
 ghost use Rattle.kernel_model.specs.Step.{call_verdict, event_verdict, row_verdict, verdict_at, verdict, process_of, row_after, after};
+ghost use Rattle.kernel_rules.specs.Rows.{row_of};
 ghost use Rattle.kernel_model.specs.Legal.{boot, booted, joined_row, first_row, row_with};
 
 use crate::calls::call;
@@ -141,7 +142,7 @@ fn step_table(table: &mut ProcessTable, entry: &Entry) -> Result<Verdict, NoMemo
     ensures legal { result ≡ Ok Verdict.Legal → table.new ≡ after table.old entry.now }
     ensures illegal { result ≢ Ok Verdict.Legal → table.new ≡ table.old }
 {
-    let Some(row) = table.find(process_of(entry)) else {
+    let Some(row) = table.look(process_of(entry)) else {
         return Ok(Verdict::Illegal(Rule::UnknownProcess));
     };
     let verdict = living_verdict(table, &row, entry);
@@ -174,11 +175,12 @@ impl Kernel {
         &self.table
     }
 
-    /// Notes whether a group is orphaned, so that it need not be found out again while no row comes, goes, ends or changes its group or parent.
-    pub fn note_orphaned(&mut self, group: Pid)
-        ensures { self.new ≡ self.old }
+    /// The row of a process. It is looked up with `&mut`, since what is found out on the way is noted for later; the table stays.
+    pub fn look(&mut self, pid: Pid) -> Option<Row>
+        ensures row { result ≡ row_of self.old pid }
+        ensures same { self.new ≡ self.old }
     {
-        self.table.note_orphaned(group);
+        self.table.look(pid)
     }
 
     /// Steps, if the entry is legal: the table is then the one after it. Otherwise the answer names the first rule that fails, and the table stays. It stays too where memory runs out.

@@ -1,7 +1,7 @@
 -- when a process may call, and what may happen to it without a call of its own (POSIX.1-2017, XSH 2.4)
 use Rattle.std.specs.Prelude.{Bool, true, false, ◌==◌, ◌&&◌, ◌||◌, not, List}
 use Rattle.unix_names.specs.declared.Signal.{Signal}
-use Rattle.unix_names.specs.declared.Signal.TheVariants.{Stop}
+use Rattle.unix_names.specs.declared.Signal.TheVariants.{Stop, Tstp, Ttin, Ttou}
 use Rattle.unix_names.specs.declared.DefaultAct.{DefaultAct}
 use Rattle.unix_names.specs.declared.DefaultAct.TheVariants.{End, StopIt}
 use Rattle.unix_names.specs.Sets.{has}
@@ -44,6 +44,10 @@ is_stop_signal s = is_stop_act (default_of s)
 -- the signal whose stop no orphaned group is spared
 abbrev pub is_plain_stop : Signal → Bool
 is_plain_stop s = number_of s == number_of Stop
+
+-- a stop signal from a terminal is deliverable
+abbrev pub has_terminal_stop : Row → Bool
+has_terminal_stop r = is_deliverable r Tstp || (is_deliverable r Ttin || is_deliverable r Ttou)
 
 -- a stop signal from a terminal, which an orphaned group is spared
 abbrev pub is_spared : List Row → Row → Signal → Bool

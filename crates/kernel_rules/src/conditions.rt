@@ -1,6 +1,6 @@
 // When a process may call, and what may happen to it without a call of its own (POSIX.1-2017, XSH 2.4).
 ghost use Rattle.std.specs.Prelude.{◌≡◌};
-ghost use Rattle.kernel_rules.specs.Conditions.{can_call, is_deliverable, has_default_action, acts_by_default, is_caught, is_stop_signal, is_plain_stop, is_spared, is_discarded, stops, ends, may_happen};
+ghost use Rattle.kernel_rules.specs.Conditions.{can_call, is_deliverable, has_default_action, acts_by_default, is_caught, is_stop_signal, is_plain_stop, has_terminal_stop, is_spared, is_discarded, stops, ends, may_happen};
 
 use crate::rows::Row;
 use crate::table::ProcessTable;
@@ -32,6 +32,16 @@ fn is_stop_signal(signal: Signal) -> bool
     ensures { result ≡ is_stop_signal signal }
 {
     matches!(default_of(signal), DefaultAct::StopIt)
+}
+
+/// Whether a stop signal from a terminal is deliverable to a process. What it does hangs on whether the process's group is orphaned.
+pub fn has_terminal_stop(row: &Row) -> bool
+    ensures { result ≡ has_terminal_stop row.now }
+{
+    let deliverable = row.sig.deliverable();
+    deliverable.has(Signal::Tstp)
+        || deliverable.has(Signal::Ttin)
+        || deliverable.has(Signal::Ttou)
 }
 
 /// Whether a stop signal from a terminal comes to a member of an orphaned group.

@@ -10,7 +10,7 @@ mod replies;
 mod rows;
 mod table;
 
-pub use conditions::{can_call, is_caught, is_discarded, may_happen, stops};
+pub use conditions::{can_call, has_terminal_stop, is_caught, is_discarded, may_happen, stops};
 pub use index::{Index, is_same_place, place};
 pub use orphans::{has_stopped, is_link, is_orphaned};
 pub use refusals::{MOST_CHILDREN, is_match, is_permitted, refusal, target_pid, wanted_group};

@@ -4,6 +4,7 @@ ghost use Rattle.kernel_rules.specs.Rows.{row_of};
 ghost use Rattle.kernel_rules.specs.Orphans.{is_orphaned};
 ghost use Rattle.kernel_rules.specs.Knows.{AreChildren};
 
+use crate::conditions::has_terminal_stop;
 use crate::index::{Index, find_rising, is_next};
 use crate::orphans::is_orphaned;
 use crate::rows::{Row, find_row};
@@ -108,8 +109,20 @@ impl ProcessTable {
         }
     }
 
+    /// The row of a process. Where that asks whether its group is orphaned, this is noted.
+    pub fn look(&mut self, pid: Pid) -> Option<Row>
+        ensures row { result ≡ row_of self.old pid }
+        ensures same { self.new ≡ self.old }
+    {
+        let row = self.find(pid)?;
+        if has_terminal_stop(&row) {
+            self.note_orphaned(row.group);
+        }
+        Some(row)
+    }
+
     /// Notes whether a group is orphaned, so that it need not be found out again while no row comes, goes, ends or changes its group or parent.
-    pub fn note_orphaned(&mut self, group: Pid)
+    fn note_orphaned(&mut self, group: Pid)
         ensures { self.new ≡ self.old }
     {
         if self.index.rises && self.noted(group).is_none() {
