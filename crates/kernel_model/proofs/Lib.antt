@@ -2,3 +2,4 @@ pub mod ChangeLaws
 pub mod NearLaws
 pub mod EndLaws
 pub mod SentLaws
+pub mod StayLaws

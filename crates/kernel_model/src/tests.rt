@@ -213,6 +213,55 @@ fn reports_an_end(rt: HostRuntime) -> Result<(), Fail> {
     )
 }
 
+// Pids that rise are found by halves, and others by looking at each row.
+#[test]
+fn pids_in_any_order(rt: HostRuntime) -> Result<(), Fail> {
+    let mut kernel = alone(rt.alloc())?;
+    run(
+        &rt,
+        &mut kernel,
+        &[
+            number(2, Call::Fork, 1_000_001),
+            again(2, wait(1_000_001)),
+            number(2, Call::Fork, 7),
+            again(2, wait(-1)),
+            refused(2, wait(8), Errno::ECHILD),
+            exits(7, 3),
+            forged(again(2, wait(7)), WRONG_REPLY),
+            again(2, wait(1_000_001)),
+            reported(2, wait(-1), 7, WaitStatus::Exited(3)),
+            number(2, Call::Fork, 1_000_002),
+            exits(1_000_001, 0),
+            reported(2, wait(0), 1_000_001, WaitStatus::Exited(0)),
+            again(2, wait(-1)),
+        ],
+    )
+}
+
+// A group is asked for, and then no longer what it was.
+#[test]
+fn a_group_becomes_orphaned(rt: HostRuntime) -> Result<(), Fail> {
+    let mut kernel = alone(rt.alloc())?;
+    run(
+        &rt,
+        &mut kernel,
+        &[
+            number(2, Call::Fork, 3),
+            number(3, Call::Fork, 4),
+            fine(4, setpgid(0, 0)),
+            fine(3, kill(4, TSTP)),
+            forged(happened(4, Event::Discarded(Signal::Tstp)), WRONG_EVENT),
+            happened(4, Event::StoppedBy(Signal::Tstp)),
+            fine(3, kill(4, CONT)),
+            happened(4, Event::Continued),
+            exits(3, 0),
+            fine(2, kill(4, TSTP)),
+            forged(happened(4, Event::StoppedBy(Signal::Tstp)), WRONG_EVENT),
+            happened(4, Event::Discarded(Signal::Tstp)),
+        ],
+    )
+}
+
 #[test]
 fn has_64_children(rt: HostRuntime) -> Result<(), Fail> {
     let mut kernel = alone(rt.alloc())?;
