@@ -1,2 +1,4 @@
+pub mod AddLaws
+pub mod ChildLaws
 pub mod IndexLaws
 pub mod MarkLaws

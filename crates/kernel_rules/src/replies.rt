@@ -131,13 +131,12 @@ pub fn has_ready_match(
     ensures { result ≡ list_any (is_ready_match caller.now selector stopped continued) table.now }
 {
     match table.children(caller.pid) {
-        Some(pids) => pids
-            .iter()
-            .any(|pid| is_ready_match_at(table, caller, selector, stopped, continued, *pid)),
-        None => table
-            .rows()
-            .iter()
-            .any(|row| is_ready_match(caller, selector, stopped, continued, row)),
+        Some(pids) => pids.iter().any(|pid| is_ready_match_at(
+            table, caller, selector, stopped, continued, *pid,
+        )),
+        None => table.rows().iter().any(|row| is_ready_match(
+            caller, selector, stopped, continued, row,
+        )),
     }
 }
 
