@@ -1,2 +1,3 @@
 pub mod IndexLaws
 pub mod MarkLaws
+pub mod RisingLaws
