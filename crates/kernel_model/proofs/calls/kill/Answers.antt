@@ -9,7 +9,7 @@ pub returns-in_default-signal_of : goal.returns-in_default-signal_of
 returns-in_default-signal_of c =
     let no_signal : signal_of c.args.number ≡ None = sym c.signal_of.ensures ∙ c.in_default-signal_of.is in
     sym (
-    ap (λ reply. after_kill c.args.rows.now.items c.args.caller.now c.args.target c.args.number reply) c.in-Fine.is
-    ∙ ap (λ signal. received (sent_by_kill c.args.caller.now c.args.target c.args.number signal) c.args.rows.now.items) no_signal
-    ∙ received-none (sent_by_kill c.args.caller.now c.args.target c.args.number None) (λ _. refl) c.args.rows.now.items
+    ap (λ reply. after_kill c.args.table.now c.args.caller.now c.args.target c.args.number reply) c.in-Fine.is
+    ∙ ap (λ signal. received (sent_by_kill c.args.caller.now c.args.target c.args.number signal) c.args.table.now) no_signal
+    ∙ received-none (sent_by_kill c.args.caller.now c.args.target c.args.number None) (λ _. refl) c.args.table.now
     )
