@@ -172,3 +172,12 @@ exit_alone rows r call fresh = (
 -- ---- names
 pub names_kept : (rows : List Row) (r : Row) (call : Call) (fresh : ℕ) (p : Pid) → HasNames call → EntryHasNames (Called p call (reply_of rows r call fresh))
 names_kept rows r call fresh p names = names
+
+-- ---- none is found where none passes
+none_step : {X : Type 0} (p : X → Bool) (x : X) (xs : List X) (b : Bool) → (b || list_any p xs) ≡ false → (list_any p xs ≡ false → find p xs ≡ None) → cond b (Some x) (find p xs) ≡ None
+none_step p x xs true h rest = cc
+none_step p x xs false h rest = rest h
+
+pub none_found : {X : Type 0} (p : X → Bool) (xs : List X) → list_any p xs ≡ false → find p xs ≡ None
+none_found p [] h = refl
+none_found p (x ∷ xs) h = none_step p x xs (p x) h (none_found p xs)
