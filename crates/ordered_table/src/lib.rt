@@ -3,10 +3,12 @@
 
 mod entries;
 mod queue;
+mod sparse;
 mod table;
 #[cfg(test)]
 mod tests;
 
 pub use entries::Entry;
 pub use queue::Queue;
+pub use sparse::SparseTable;
 pub use table::Table;
