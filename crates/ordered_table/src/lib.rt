@@ -4,6 +4,7 @@
 mod entries;
 mod lists;
 mod queue;
+mod sparse;
 mod table;
 #[cfg(test)]
 mod tests;
@@ -11,4 +12,5 @@ mod tests;
 pub use entries::Entry;
 pub use lists::{join, put_members, take_members};
 pub use queue::Queue;
+pub use sparse::SparseTable;
 pub use table::Table;

@@ -1,4 +1,4 @@
-use crate::{Entry, Queue, Table};
+use crate::{Entry, Queue, SparseTable, Table};
 use std::test::Fail;
 use unix_names::Pid;
 
@@ -23,6 +23,20 @@ fn a_table_keeps_its_ids_in_order(rt: HostRuntime) -> Result<(), Fail> {
     assert_eq!(rt; table.len(), 2);
     let first = table.pop_first();
     assert_eq!(rt; first.map(|entry| entry.value), Some('a'));
+    Ok(())
+}
+
+#[test]
+fn a_value_leaves_a_sparse_table_and_comes_back(rt: HostRuntime) -> Result<(), Fail> {
+    let mut table = SparseTable::new(rt.alloc());
+    assert_eq!(rt; table.put(Pid(7), 'b'), Ok(None));
+    assert_eq!(rt; table.put(Pid(2), 'a'), Ok(None));
+    assert_eq!(rt; table.remove(Pid(7)), Some('b'));
+    assert_eq!(rt; table.get(Pid(7)).copied(), None);
+    assert_eq!(rt; table.put(Pid(7), 'c'), Ok(None));
+    assert_eq!(rt; table.get(Pid(7)).copied(), Some('c'));
+    assert_eq!(rt; table.remove(Pid(2)), Some('a'));
+    assert_eq!(rt; table.remove(Pid(2)), None);
     Ok(())
 }
 
