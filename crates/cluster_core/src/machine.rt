@@ -10,7 +10,7 @@ use crate::images::{advance, born, woken};
 use crate::told::{add_all_members, keep_left, risked, told_first};
 use kernel_model::Kernel;
 use kernel_rules::Row;
-use ordered_table::{Queue, Table};
+use ordered_table::{Queue, SparseTable, Table};
 use proc_image::Image;
 use std::alloc::Global;
 use unix_calls::{Call, Entry, Phase, Reply, World};
@@ -25,7 +25,7 @@ pub struct Machine {
     /// The images that wait for their turn.
     pub ready: Queue<Image>,
     /// The images that sleep or are stopped.
-    pub parked: Table<Image>,
+    pub parked: SparseTable<Image>,
     /// The next pid that a fork gives.
     pub serial: u32,
 }

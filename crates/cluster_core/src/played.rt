@@ -10,7 +10,7 @@ use crate::choice::{chosen, record};
 use crate::groups::first_groups;
 use crate::machine::Machine;
 use kernel_model::Kernel;
-use ordered_table::{Queue, Table};
+use ordered_table::{Queue, SparseTable};
 use proc_image::Image;
 use std::alloc::Global;
 use unix_calls::{Entry, Job, Phase, Turn, World};
@@ -93,7 +93,7 @@ impl Played {
                 kernel,
                 groups,
                 ready,
-                parked: Table::new(alloc),
+                parked: SparseTable::new(alloc),
                 serial: 2 + world.starts.len() as u32,
             },
             history: Seq::new(alloc),
