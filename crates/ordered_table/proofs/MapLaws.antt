@@ -1,7 +1,7 @@
 -- entries that rise as a map from ids to values
-use Rattle.std.proofs.Common.{is_some, Result, Ok, Err, OnOk, OnErr, slice_get, ◌≡◌, ◌≢◌, ◌==◌, ◌<◌, ◌≤◌, ◌+◌, ℕ, zero, suc, Bool, true, false, nat_lt, List, [], ◌∷◌, length, get_or, set, map, sym, ap, ◌∙◌, subst, refl, arith, Some, None, if◌then◌else◌, Option}
+use Rattle.std.proofs.Common.{is_some, Result, Ok, Err, OnOk, OnErr, slice_get, ◌≡◌, ◌≢◌, ◌==◌, ◌<◌, ◌≤◌, ℕ, zero, suc, Bool, true, false, nat_lt, List, [], ◌∷◌, set, sym, ap, ◌∙◌, subst, refl, arith, Some, None, if◌then◌else◌}
 use Rattle.std.specs.Option.{option_map}
-use Rattle.std.proofs.lemmas.Bool.{eq-eqb, ne_eqb, ltb-true, ltb-false, eqb-true, eqb-false, lt-ltb, le-ltb}
+use Rattle.std.proofs.lemmas.Bool.{eq-eqb, ne_eqb, ltb-true, ltb-false, eqb-true, eqb-false, le-ltb}
 use Rattle.unix_names.specs.declared.Pid.{Pid}
 use Rattle.ordered_table.specs.declared.entries.Entry.{Entry}
 use Rattle.ordered_table.specs.Entries.{value_at, has_value, pids_of, with_value, without, with_each, AllAbove, IsRising, SameElsewhere}

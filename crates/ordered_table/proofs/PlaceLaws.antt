@@ -1,10 +1,9 @@
 -- an id's place among entries that rise
-use Rattle.std.proofs.Common.{◌≡◌, ◌==◌, ◌<◌, ◌≤◌, ◌+◌, ℕ, zero, suc, Bool, true, false, nat_lt, List, [], ◌∷◌, ◌++◌, length, get_or, set, take, drop, sym, ap, ◌∙◌, subst, refl, arith, Some, None, if◌then◌else◌, Option}
-use Rattle.std.specs.List.{insert, remove, last_or}
-use Rattle.std.specs.List.Sorted.{IsNonDecreasingBy}
+use Rattle.std.proofs.Common.{◌≡◌, ◌==◌, ◌<◌, ◌≤◌, ℕ, zero, suc, Bool, true, false, nat_lt, List, [], ◌∷◌, length, get_or, ap, refl, arith, Some, if◌then◌else◌, Option}
+use Rattle.std.specs.List.{last_or}
 use Rattle.unix_names.specs.declared.Pid.{Pid}
 use Rattle.ordered_table.specs.declared.entries.Entry.{Entry}
-use Rattle.ordered_table.specs.Entries.{value_at, with_value, without, pids_of, AllAbove, AllUpTo, IsRising}
+use Rattle.ordered_table.specs.Entries.{pids_of, AllAbove, AllUpTo, IsRising}
 use Rattle.ordered_table.specs.Places.{place, IsFoundAt, IsVacantAt}
 
 -- an id below all the entries is below each

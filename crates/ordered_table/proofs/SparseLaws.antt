@@ -1,12 +1,12 @@
 -- the entries that have a value, as a map from ids to values
-use Rattle.std.proofs.Common.{is_some, ◌≡◌, ◌==◌, ◌<◌, ◌≤◌, ℕ, Bool, true, false, nat_lt, List, [], ◌∷◌, sym, ap, ◌∙◌, refl, arith, Some, None, if◌then◌else◌, Option}
+use Rattle.std.proofs.Common.{is_some, ◌≡◌, ◌==◌, ◌<◌, Bool, true, false, nat_lt, List, [], ◌∷◌, sym, ap, ◌∙◌, refl, arith, Some, None, if◌then◌else◌, Option}
 use Rattle.std.specs.Option.{option_flatten}
-use Rattle.std.proofs.lemmas.Bool.{le-ltb, ltb-false, eqb-true, eqb-false, ne_eqb, eq-eqb}
+use Rattle.std.proofs.lemmas.Bool.{le-ltb, ltb-false, eqb-true, ne_eqb}
 use Rattle.unix_names.specs.declared.Pid.{Pid}
 use Rattle.ordered_table.specs.declared.entries.Entry.{Entry}
 use Rattle.ordered_table.specs.Entries.{value_at, has_value, with_value, without, AllAbove, IsRising}
 use Rattle.ordered_table.specs.Sparse.{present, with_present}
-use Rattle.ordered_table.proofs.MapLaws.{none-below, AllAbove-lesser}
+use Rattle.ordered_table.proofs.MapLaws.{none-below, AllAbove-lesser, IsRising-put}
 
 -- a value put in front
 abbrev entry : {T : Type 0} → Pid → T → Entry T
@@ -97,3 +97,6 @@ has_value-present es p r has = has_value-flatten (value_at es p) (ap is_some (sy
     has_value-flatten : {T : Type 0} (o : Option (Option T)) → is_some (option_flatten o) ≡ true → is_some o ≡ true
     has_value-flatten None has = cc
     has_value-flatten (Some o) has = refl
+
+-- what looks through the empty entries
+pub ruleset present_laws = (value_at-present, has_value-present, present-put, without-none, IsRising-put)

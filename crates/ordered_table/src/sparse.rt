@@ -1,4 +1,4 @@
-// A table of values by process id that come and go.
+// A table of values by process id, for values that go and come back.
 ghost use Rattle.std.specs.Prelude.{◌≡◌, [], IfErr, IfOk, OnOk, OnErr, IsSome, IsOk};
 ghost use Rattle.std.specs.Option.{option_copied};
 ghost use Rattle.ordered_table.specs.Entries.{value_at, with_value, without};
@@ -10,7 +10,7 @@ use unix_names::Pid;
 
 /// Values by process id, in rising order of id, each id once. Contracts see the list of the entries that have a value.
 ///
-/// An id whose value was taken out keeps its place, empty, so that taking a value out moves no other, nor does putting one back.
+/// An id whose value was taken out keeps its place, empty: taking a value out moves no other, nor does putting one back. So the table is as long as there are ids that ever had a value.
 #[derive(Debug, Drop)]
 pub struct SparseTable<T> {
     entries: Vec<Entry<Option<T>>>,
@@ -41,6 +41,7 @@ impl<T> SparseTable<T> {
     }
 
     /// The value of an id.
+    #[tactic(auto, using(crate::proofs::SparseLaws::present_laws))]
     pub fn get(&self, pid: Pid) -> Option<&T>
         ensures { option_copied result ≡ value_at self.now pid }
     {
@@ -50,7 +51,8 @@ impl<T> SparseTable<T> {
         }
     }
 
-    /// Gives the id a value, and returns the one that it had. A value that finds no memory comes back; where the id had one before, no memory is taken.
+    /// Gives the id a value, and returns the one that it had. A value that finds no memory comes back; where the id has a place, no memory is taken.
+    #[tactic(auto, using(crate::proofs::SparseLaws::present_laws))]
     pub fn put(&mut self, pid: Pid, value: T) -> Result<Option<T>, T>
         ensures before { IfOk result (λ old. old ≡ value_at self.old pid) }
         ensures ok { OnOk result (self.new ≡ with_value self.old pid value) }
@@ -66,6 +68,7 @@ impl<T> SparseTable<T> {
     }
 
     /// Takes the value of an id out. None exactly where it has none. No other value moves.
+    #[tactic(auto, using(crate::proofs::SparseLaws::present_laws))]
     pub fn remove(&mut self, pid: Pid) -> Option<T>
         ensures value { result ≡ value_at self.old pid }
         ensures rest { self.new ≡ without self.old pid }

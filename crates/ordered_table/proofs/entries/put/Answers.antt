@@ -1,4 +1,3 @@
-use Rattle.std.proofs.Common.{rules}
 use Rattle.ordered_table.proofs.entries.put.Goals as goal
 
 pub returns-in-Ok-clause-before : goal.returns-in-Ok-clause-before

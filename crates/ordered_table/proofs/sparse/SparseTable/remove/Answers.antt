@@ -1,16 +1,10 @@
-use Rattle.std.proofs.Common.{None, is_some, ap, sym, subst, ◌∙◌}
+use Rattle.std.proofs.Common.{None, is_some, ap, subst, ◌∙◌}
 use Rattle.std.specs.Option.{option_flatten}
-use Rattle.ordered_table.specs.Entries.{without, IsRising}
+use Rattle.ordered_table.specs.Entries.{without}
 use Rattle.ordered_table.specs.Places.{IsFoundAt}
 use Rattle.ordered_table.specs.Sparse.{present}
-use Rattle.ordered_table.proofs.MapLaws.{IsRising-put}
-use Rattle.ordered_table.proofs.SparseLaws.{value_at-present, present-empty, without-none}
+use Rattle.ordered_table.proofs.SparseLaws.{value_at-present, present-empty}
 use Rattle.ordered_table.proofs.sparse.SparseTable.remove.Goals as goal
-
-pub invariant_of-self : goal.invariant_of-self
-invariant_of-self g c =
-    let found = subst (λ es. IsFoundAt es c.args.pid c.in-Ok.at) c.as_slice.ensures.value c.in-Ok.ensures.found in
-    subst IsRising (sym (c.replace_at-old.ensures.new ∙ found.replaced None)) (IsRising-put _ c.args.pid None c.self.invariant)
 
 pub returns-in-Ok-clause-value : goal.returns-in-Ok-clause-value
 returns-in-Ok-clause-value g c =
@@ -24,12 +18,3 @@ returns-in-Ok-clause-rest g c =
     let found = subst (λ es. IsFoundAt es c.args.pid c.in-Ok.at) c.as_slice.ensures.value c.in-Ok.ensures.found in
     let has = ap is_some (found.value c.replace_at-old.result) in
     ap present (c.replace_at-old.ensures.new ∙ found.replaced None) ∙ (present-empty _ c.args.pid c.self.invariant has ∙ ap (λ es. without es c.args.pid) c.self.view_is)
-
-pub returns-in-Err-clause-value : goal.returns-in-Err-clause-value
-returns-in-Err-clause-value g c =
-    let none = ap option_flatten c.in-Err.ensures.vacant.none in
-    let there = value_at-present _ c.args.pid c.self.invariant in
-    cc
-
-pub returns-in-Err-clause-rest : goal.returns-in-Err-clause-rest
-returns-in-Err-clause-rest g c = sym (without-none _ c.args.pid (sym (returns-in-Err-clause-value g c)))
