@@ -8,7 +8,7 @@ use Rattle.ordered_table.specs.Entries.{value_at}
 use Rattle.ordered_table.specs.Lists.{Lists, members_of}
 use Rattle.kernel_rules.specs.declared.rows.Row.{Row}
 use Rattle.kernel_rules.specs.declared.index.Index.{Index}
-use Rattle.kernel_rules.specs.Rows.{is_same, is_pid, is_parent, row_of}
+use Rattle.kernel_rules.specs.Rows.{is_same, is_parent, row_of}
 use Rattle.kernel_rules.specs.Orphans.{is_orphaned}
 
 -- every pid is above p

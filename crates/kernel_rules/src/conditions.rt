@@ -39,9 +39,7 @@ pub fn has_terminal_stop(row: &Row) -> bool
     ensures { result ≡ has_terminal_stop row.now }
 {
     let deliverable = row.sig.deliverable();
-    deliverable.has(Signal::Tstp)
-        || deliverable.has(Signal::Ttin)
-        || deliverable.has(Signal::Ttou)
+    deliverable.has(Signal::Tstp) || deliverable.has(Signal::Ttin) || deliverable.has(Signal::Ttou)
 }
 
 /// Whether a stop signal from a terminal comes to a member of an orphaned group.

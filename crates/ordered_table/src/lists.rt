@@ -24,11 +24,7 @@ pub fn take_members(
 }
 
 /// Gives an id this list.
-pub fn put_members(
-    lists: &mut Table<Seq<Pid>>,
-    id: Pid,
-    members: Seq<Pid>,
-) -> Result<(), NoMemory>
+pub fn put_members(lists: &mut Table<Seq<Pid>>, id: Pid, members: Seq<Pid>) -> Result<(), NoMemory>
     ensures { OnOk result (lists.new ≡ with_value lists.old id members) }
 {
     match lists.put(id, members) {
@@ -39,12 +35,7 @@ pub fn put_members(
 
 /// A process joins the list of an id, at its end.
 #[tactic(auto, using(crate::proofs::MapLaws::with_value_again))]
-pub fn join(
-    alloc: Global,
-    lists: &mut Table<Seq<Pid>>,
-    id: Pid,
-    pid: Pid,
-) -> Result<(), NoMemory>
+pub fn join(alloc: Global, lists: &mut Table<Seq<Pid>>, id: Pid, pid: Pid) -> Result<(), NoMemory>
     ensures { OnOk result (lists.new ≡ joined id pid lists.old) }
 {
     let mut members = take_members(alloc, lists, id)?;
