@@ -86,7 +86,13 @@ fn setsid(table: &mut ProcessTable, caller: &Row, reply: &Reply)
     }
 }
 
-fn set_action(table: &mut ProcessTable, caller: &Row, signal: Option<Signal>, act: Act, reply: &Reply)
+fn set_action(
+    table: &mut ProcessTable,
+    caller: &Row,
+    signal: Option<Signal>,
+    act: Act,
+    reply: &Reply,
+)
     requires { reply.now ≡ Reply.Fine → action_refusal signal ≡ None }
     ensures { table.new ≡ after_action table.old caller.now signal act reply.now }
 {
@@ -98,7 +104,12 @@ fn set_action(table: &mut ProcessTable, caller: &Row, signal: Option<Signal>, ac
 }
 
 /// Changes the table as a call says that got a reply.
-pub fn call(table: &mut ProcessTable, caller: &Row, call: &Call, reply: &Reply) -> Result<(), NoMemory>
+pub fn call(
+    table: &mut ProcessTable,
+    caller: &Row,
+    call: &Call,
+    reply: &Reply,
+) -> Result<(), NoMemory>
     requires names { HasNames call.now }
     requires allowed { allows table.old caller.now call.now reply.now ≡ true }
     ensures ok { OnOk result (table.new ≡ after_call table.old caller.now call.now reply.now) }

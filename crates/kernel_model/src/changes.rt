@@ -153,13 +153,7 @@ fn receive_kill(row: &mut Row, caller: &Row, target: Target, number: u32, signal
 }
 
 #[tactic(auto, using(std::proofs::lemmas::List::Edits::map_over_more))]
-fn reach_targets(
-    rows: &mut Vec<Row>,
-    caller: &Row,
-    target: Target,
-    number: u32,
-    signal: Signal,
-)
+fn reach_targets(rows: &mut Vec<Row>, caller: &Row, target: Target, number: u32, signal: Signal)
     ensures { rows.new.items ≡ received (sent_by_kill caller.now target number (Some signal)) rows.old.items }
 {
     for row in rows.iter_mut() {

@@ -1,4 +1,4 @@
-use Rattle.std.proofs.Common.{◌≡◌, ◌∙◌, ap, rules, not}
+use Rattle.std.proofs.Common.{◌∙◌, ap, rules, not}
 use Rattle.std.specs.Prelude.{filter}
 use Rattle.std.proofs.lemmas.Fn.{filter_same}
 use Rattle.kernel_model.specs.Step.{is_ended_at}
