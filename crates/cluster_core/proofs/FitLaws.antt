@@ -27,7 +27,8 @@ use Rattle.kernel_rules.specs.declared.rows.Row.{Row}
 use Rattle.kernel_rules.specs.Rows.{row_of}
 use Rattle.cluster_core.specs.declared.machine.Machine.{Machine}
 use Rattle.cluster_core.specs.Machine.{woken_image, roused, nudged, told, chosen, in_phase, advanced, image_after, placed, placed_image, with_image, child_pid, born, born_as, decided, serial_after, committed}
-use Rattle.cluster_core.specs.Commit.{AllFit, first_movable}
+use Rattle.cluster_core.specs.Ready.{first_movable}
+use Rattle.cluster_core.specs.Commit.{AllFit}
 use Rattle.cluster_core.specs.Run.{Played, first_machine, played_by, played, gone_from, gone, is_stopped_phase, pushed_from, pushed, gone_times, turned, turn_count}
 
 -- ---- tables

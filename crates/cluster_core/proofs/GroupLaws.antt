@@ -1,9 +1,8 @@
 -- values by process id that are given twice, or taken where there is none
-use Rattle.std.proofs.Common.{◌≡◌, ◌==◌, nat_lt, Bool, true, false, List, [], ◌∷◌, None, Some, if◌then◌else◌, refl, arith}
-use Rattle.std.proofs.lemmas.Bool.{eq-eqb, le-ltb}
+use Rattle.std.proofs.Common.{◌≡◌, ◌==◌, nat_lt, Bool, true, false, List, [], ◌∷◌, None, Some, if◌then◌else◌, refl}
 use Rattle.unix_names.specs.declared.Pid.{Pid}
 use Rattle.ordered_table.specs.declared.entries.Entry.{Entry}
-use Rattle.ordered_table.specs.Entries.{value_at, with_value, without}
+use Rattle.ordered_table.specs.Entries.{value_at, without}
 
 abbrev entry : {T : Type 0} → Pid → T → Entry T
 entry p v = record { pid = p; value = v }

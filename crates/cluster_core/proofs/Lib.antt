@@ -4,3 +4,4 @@ pub mod MachineLaws
 pub mod FitLaws
 pub mod TurnLaws
 pub mod RunLaws
+pub mod ReadyLaws

@@ -1,5 +1,5 @@
--- What the code of a turn goes through: who is told without the groups that an end leaves, which groups that may be, and which image a push moves.
-use Rattle.std.specs.Prelude.{ℕ, ◌≡◌, Bool, true, false, not, if◌then◌else◌, List, [], ◌∷◌, filter, find, slice_get, remove, Option, All}
+-- What the code of a turn goes through: who is told without the groups that an end leaves, and which groups that may be.
+use Rattle.std.specs.Prelude.{Bool, true, false, if◌then◌else◌, List, [], ◌∷◌, filter, All}
 use Rattle.unix_names.specs.declared.Pid.{Pid}
 use Rattle.unix_calls.specs.declared.Call.{Call}
 use Rattle.unix_calls.specs.declared.Call.TheVariants.{Exit, Kill, Setpgid, Setsid}
@@ -11,13 +11,11 @@ use Rattle.unix_calls.specs.declared.Entry.TheVariants.{Called, Happened}
 use Rattle.unix_calls.specs.declared.World.{World}
 use Rattle.unix_calls.specs.Calls.{target_of}
 use Rattle.ordered_table.specs.Entries.{pids_of}
-use Rattle.proc_image.specs.declared.image.Image.{Image}
 use Rattle.proc_image.specs.Images.{IsFit}
 use Rattle.kernel_rules.specs.declared.rows.Row.{Row}
 use Rattle.kernel_model.specs.Changes.{is_at_risk}
 use Rattle.kernel_model.specs.Step.{process_of}
 use Rattle.cluster_core.specs.declared.machine.Machine.{Machine}
-use Rattle.cluster_core.specs.Run.{is_stopped_phase}
 use Rattle.cluster_core.specs.Machine.{Groups, members_of, others, told_of_kill_call, told_of_setpgid, told_of_setsid}
 
 -- the members of a group but one
@@ -64,20 +62,3 @@ risked before entry groups = if is_end entry then filter (is_at_risk before (pro
 pub record AllFit (world : World) (m : Machine) : Type 0 where
   pub ready : All (IsFit world) m.ready
   pub parked : All (λ e. IsFit world e.value) m.parked
-
-abbrev pub is_movable : Image → Bool
-is_movable image = not (is_stopped_phase image.phase)
-
--- the first image of the queue that is not stopped
-abbrev pub first_movable : List Image → Option Image
-first_movable images = find is_movable images
-
--- the queue without it
-abbrev pub without_movable : List Image → List Image
-without_movable [] = []
-without_movable (image ∷ rest) = if is_stopped_phase image.phase then image ∷ without_movable rest else rest
-
--- the first image that is not stopped is the one at this place
-pub record IsFirstMovable (images : List Image) (at : ℕ) : Type 0 where
-  pub first : slice_get images at ≡ first_movable images
-  pub rest : remove images at ≡ without_movable images

@@ -1,3 +1,4 @@
+pub mod Ready
 pub mod Machine
 pub mod Run
 pub mod Commit

@@ -1,5 +1,5 @@
 -- One node between two turns, and what a process's turn does to it.
-use Rattle.std.specs.Prelude.{ℕ, suc, ℤ, pos, ◌==◌, not, if◌then◌else◌, List, [], ◌∷◌, ◌++◌, filter, fold, Option, None, Some, is_some, option_map, unwrap_or}
+use Rattle.std.specs.Prelude.{ℕ, suc, ℤ, pos, ◌==◌, not, if◌then◌else◌, List, [], ◌∷◌, ◌++◌, filter, fold, Option, None, Some, is_some, option_map}
 use Rattle.std.specs.List.{flat_map}
 use Rattle.unix_names.specs.declared.Pid.{Pid}
 use Rattle.unix_calls.specs.declared.Call.{Call}

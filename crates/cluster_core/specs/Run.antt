@@ -1,10 +1,8 @@
 -- The run of a schedule: one turn after the other, on one node.
-use Rattle.std.specs.Prelude.{ℕ, zero, suc, ◌+◌, ◌≡◌, Bool, true, false, ◌==◌, ◌&&◌, if◌then◌else◌, List, [], ◌∷◌, ◌++◌, map, fold, length, Option, None, Some}
+use Rattle.std.specs.Prelude.{ℕ, zero, suc, ◌+◌, ◌≡◌, ◌==◌, ◌&&◌, if◌then◌else◌, List, [], ◌∷◌, ◌++◌, map, fold, length, Option, None, Some}
 use Rattle.unix_calls.specs.declared.Entry.{Entry}
 use Rattle.unix_calls.specs.declared.Job.{Job}
 use Rattle.unix_calls.specs.declared.Job.TheVariants.{Push as PushJob}
-use Rattle.unix_calls.specs.declared.Phase.{Phase}
-use Rattle.unix_calls.specs.declared.Phase.TheVariants as phases
 use Rattle.unix_calls.specs.declared.Turn.{Turn}
 use Rattle.unix_calls.specs.declared.Turn.TheVariants.{Go, Push, Take, Auto}
 use Rattle.unix_calls.specs.declared.World.{World}
@@ -15,6 +13,7 @@ use Rattle.kernel_rules.specs.Rows.{row_of}
 use Rattle.kernel_model.specs.Legal.{boot}
 use Rattle.cluster_core.specs.declared.machine.Machine.{Machine}
 pub use Rattle.cluster_core.specs.declared.played.Played.{Played}
+pub use Rattle.cluster_core.specs.Ready.{is_stopped_phase}
 use Rattle.cluster_core.specs.Machine.{Groups, joined, chosen, committed}
 
 -- each start is a member of its group, in the order of the file
@@ -54,10 +53,6 @@ gone_from world (image ∷ rest) p = played world image (next_job world image) r
 
 abbrev pub gone : World → Played → Played
 gone world p = gone_from world p.machine.ready p
-
-abbrev pub is_stopped_phase : Phase → Bool
-is_stopped_phase phases.Stopped = true
-is_stopped_phase phase = false
 
 -- the first of the queue that is not stopped is moved; nothing is done where there is none
 abbrev pub pushed_from : World → List Image → List Image → Played → Played

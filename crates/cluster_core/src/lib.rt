@@ -7,6 +7,7 @@ mod images;
 mod machine;
 mod outcome;
 mod played;
+mod ready;
 mod replay;
 mod told;
 

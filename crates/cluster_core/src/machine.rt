@@ -7,10 +7,11 @@ ghost use Rattle.cluster_core.specs.Machine.{stepped, serial_after, decided, nud
 
 use crate::groups::{Groups, change_groups};
 use crate::images::{advance, born, woken};
+use crate::ready::ReadyQueue;
 use crate::told::{add_all_members, keep_left, risked, told_first};
 use kernel_model::Kernel;
 use kernel_rules::Row;
-use ordered_table::{Queue, SparseTable, Table};
+use ordered_table::{SparseTable, Table};
 use proc_image::Image;
 use std::alloc::Global;
 use unix_calls::{Call, Entry, Phase, Reply, World};
@@ -23,7 +24,7 @@ pub struct Machine {
     /// The members of each group, in the order in which they last joined it. Who has gone may still be listed.
     pub groups: Table<Seq<Pid>>,
     /// The images that wait for their turn.
-    pub ready: Queue<Image>,
+    pub ready: ReadyQueue,
     /// The images that sleep or are stopped.
     pub parked: SparseTable<Image>,
     /// The next pid that a fork gives.

@@ -1,16 +1,16 @@
 // A node with what it has committed so far, and its turns.
-ghost use Rattle.std.specs.Prelude.{◌≡◌, ◌+◌, ◌<◌, ◌^◌, [], map, None, false, slice_get, IfSome, IfNone, IfOk, OnOk};
-ghost use Rattle.std.specs.Option.{option_map_or};
+ghost use Rattle.std.specs.Prelude.{◌≡◌, ◌+◌, ◌<◌, ◌^◌, [], map, IfOk, OnOk};
 ghost use Rattle.unix_calls.specs.Valid.{IsValid};
 ghost use Rattle.proc_image.specs.Images.{IsFit, JobHasNames, start_image};
-ghost use Rattle.cluster_core.specs.Commit.{AllFit, is_movable, IsFirstMovable, first_movable, without_movable};
-ghost use Rattle.cluster_core.specs.Run.{first_machine, is_stopped_phase, played, gone, pushed, gone_times, turned, turn_count};
+ghost use Rattle.cluster_core.specs.Commit.{AllFit};
+ghost use Rattle.cluster_core.specs.Run.{first_machine, played, gone, pushed, gone_times, turned, turn_count};
 
 use crate::choice::{chosen, record};
 use crate::groups::first_groups;
 use crate::machine::Machine;
+use crate::ready::ReadyQueue;
 use kernel_model::Kernel;
-use ordered_table::{Queue, SparseTable};
+use ordered_table::SparseTable;
 use proc_image::Image;
 use std::alloc::Global;
 use unix_calls::{Entry, Job, Phase, Turn, World};
@@ -25,11 +25,11 @@ pub struct Played {
 
 /// The images of the starts, in their order.
 #[tactic(auto, using(crate::proofs::TurnLaws::map_item))]
-fn first_images(alloc: Global, world: &World) -> Result<Queue<Image>, NoMemory>
+fn first_images(alloc: Global, world: &World) -> Result<ReadyQueue, NoMemory>
     requires { IsValid world.now }
     ensures { IfOk result (λ ready. ready ≡ map (start_image world.now) world.now.starts) }
 {
-    let mut ready = Queue::new(alloc);
+    let mut ready = ReadyQueue::new(alloc);
     for k in 0..world.starts.len() {
         let image = Image::start(alloc, world, k)?;
         if ready.push(image).is_err() {
@@ -37,45 +37,6 @@ fn first_images(alloc: Global, world: &World) -> Result<Queue<Image>, NoMemory>
         }
     }
     Ok(ready)
-}
-
-fn is_stopped(phase: Phase) -> bool
-    ensures { result ≡ is_stopped_phase phase }
-{
-    matches!(phase, Phase::Stopped)
-}
-
-fn is_movable(ready: &Queue<Image>, at: usize) -> bool
-    ensures { result ≡ option_map_or is_movable (slice_get ready.now at) false }
-{
-    match ready.get(at) {
-        Some(image) => !is_stopped(image.phase),
-        None => false,
-    }
-}
-
-/// The place of the first image of the queue that is not stopped.
-#[tactic(auto, using(crate::proofs::TurnLaws::none_more))]
-fn place_of_movable(ready: &Queue<Image>) -> Option<usize>
-    ensures some { IfSome result (IsFirstMovable ready.now) }
-    ensures none { IfNone result (first_movable ready.now ≡ None) }
-{
-    for at in 0..ready.len() {
-        if is_movable(ready, at) {
-            return Some(at);
-        }
-    }
-    None
-}
-
-/// The first image of the queue that is not stopped leaves it; the others keep their order.
-#[tactic(auto, using(crate::proofs::TurnLaws::none_movable))]
-fn take_movable(ready: &mut Queue<Image>) -> Option<Image>
-    ensures first { result ≡ first_movable ready.old }
-    ensures rest { ready.new ≡ without_movable ready.old }
-{
-    let at = place_of_movable(ready)?;
-    ready.remove(at)
 }
 
 impl Played {
@@ -151,7 +112,7 @@ impl Played {
         requires room { self.old.machine.serial + 1 < 2 ^ 32 }
         ensures { OnOk result (self.new ≡ pushed world.now self.old) }
     {
-        match take_movable(&mut self.machine.ready) {
+        match self.machine.ready.take_movable() {
             Some(image) => self.play(alloc, world, image, &Job::Push(NodeId(0))),
             None => Ok(()),
         }
