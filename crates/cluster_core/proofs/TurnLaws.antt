@@ -1,7 +1,5 @@
 -- the first image that is not stopped, and turns on an empty queue
-use Rattle.std.proofs.Common.{◌≡◌, ◌∙◌, ◌+◌, ℕ, zero, suc, Bool, true, false, not, cond, List, [], ◌∷◌, ◌++◌, map, take, drop, length, get_or, ◌<◌, ◌≤◌, slice_get, add-one, Option, None, Some, if◌then◌else◌, option_map, append_assoc, refl, sym, ap, arith}
-use Rattle.std.specs.Prelude.{remove}
-use Rattle.std.specs.Option.{option_map_or}
+use Rattle.std.proofs.Common.{◌≡◌, ◌∙◌, ◌+◌, ℕ, zero, suc, Bool, true, false, not, cond, List, [], ◌∷◌, ◌++◌, map, take, drop, length, get_or, ◌<◌, slice_get, Option, None, Some, if◌then◌else◌, option_map, append_assoc, refl, sym, ap, arith}
 use Rattle.std.proofs.lemmas.List.{map_more}
 use Rattle.std.proofs.lemmas.List.Sums.{fold_more}
 use Rattle.std.proofs.lemmas.Option.{get_or_from_slice_get, slice_get_within}
@@ -9,7 +7,7 @@ use Rattle.unix_calls.specs.declared.Job.TheVariants.{Push}
 use Rattle.unix_calls.specs.declared.Turn.{Turn}
 use Rattle.unix_calls.specs.declared.World.{World}
 use Rattle.proc_image.specs.declared.image.Image.{Image}
-use Rattle.cluster_core.specs.Ready.{is_movable, first_movable, without_movable, IsFirstMovable}
+use Rattle.cluster_core.specs.Ready.{first_movable, without_movable}
 use Rattle.cluster_core.specs.Run.{Played, played, gone_from, gone, is_stopped_phase, pushed_from, pushed, gone_times, turned, first_machine, run, turn_count, total_turns}
 
 -- the image that was found is moved, and the others stay
@@ -69,42 +67,6 @@ none_by image rest false none later = absurd (cc none)
 pub none_movable : (images : List Image) → first_movable images ≡ None → without_movable images ≡ images
 none_movable [] none = refl
 none_movable (image ∷ rest) none = none_by image rest (is_stopped_phase image.phase) none (none_movable rest)
-
--- the first image that is not stopped, by its place
-here_by : (image : Image) (rest : List Image) (b : Bool) → not b ≡ true → (Some image ≡ cond (not b) (Some image) (first_movable rest)) × (rest ≡ (if b then image ∷ without_movable rest else rest))
-here_by image rest true e = absurd (cc e)
-here_by image rest false e = (refl, refl)
-
-later_by : (image : Image) (rest : List Image) (i : ℕ) (b : Bool) → cond (not b) (Some image) (first_movable (take i rest)) ≡ None → (first_movable (take i rest) ≡ None → IsFirstMovable rest i) →
-    (slice_get rest i ≡ cond (not b) (Some image) (first_movable rest)) × (image ∷ remove rest i ≡ (if b then image ∷ without_movable rest else rest)) × (cond (not b) (Some image) (first_movable (take i (remove rest i))) ≡ None) × (i ≤ length (remove rest i))
-later_by image rest i true none ih = let f = ih none in (f.first, ap (λ images. image ∷ images) f.rest, f.before.stopped, f.before.within)
-later_by image rest i false none ih = absurd (cc none)
-
-pub movable_at : (images : List Image) (i : ℕ) → first_movable (take i images) ≡ None → option_map_or is_movable (slice_get images i) false ≡ true → IsFirstMovable images i
-movable_at [] i none e = absurd (cc e)
-movable_at (image ∷ rest) zero none e =
-    let k = here_by image rest (is_stopped_phase image.phase) e in
-    record { first = k.0; rest = k.1; before = record { within = omega arith; stopped = refl } }
-movable_at (image ∷ rest) (suc i) none e =
-    let k = later_by image rest i (is_stopped_phase image.phase) none (λ h. movable_at rest i h e) in
-    let le : i ≤ length (remove rest i) = k.3 in
-    record { first = k.0; rest = k.1; before = record { within = omega arith; stopped = k.2 } }
-
-none_here : (image : Image) (b : Bool) → b ≡ false → cond b (Some image) None ≡ None
-none_here image b e = rw e
-
-none_later : (image : Image) (b : Bool) (o o' : Option Image) → cond b (Some image) o ≡ None → (o ≡ None → o' ≡ None) → cond b (Some image) o' ≡ None
-none_later image true o o' none ih = absurd (cc none)
-none_later image false o o' none ih = ih none
-
-none_suc : (images : List Image) (i : ℕ) → first_movable (take i images) ≡ None → option_map_or is_movable (slice_get images i) false ≡ false → first_movable (take (suc i) images) ≡ None
-none_suc [] i none e = refl
-none_suc (image ∷ rest) zero none e = none_here image (is_movable image) e
-none_suc (image ∷ rest) (suc i) none e = none_later image (is_movable image) (first_movable (take i rest)) (first_movable (take (suc i) rest)) none (λ h. none_suc rest i h e)
-
--- one image more that is stopped
-pub none_more : (images : List Image) (i : ℕ) → first_movable (take i images) ≡ None → option_map_or is_movable (slice_get images i) false ≡ false → first_movable (take (i + 1) images) ≡ None
-none_more images i none e = rw add-one (none_suc images i none e)
 
 -- a push where all are stopped
 pub pushed_none : (world : World) (p : Played) (o : Option Image) (ready : List Image) → o ≡ first_movable p.machine.ready → ready ≡ without_movable p.machine.ready → o ≡ None →

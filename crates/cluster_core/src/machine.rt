@@ -71,7 +71,7 @@ impl Machine {
         ensures { OnOk result (self.new ≡ placed_image image self.old) }
     {
         match image.phase {
-            Phase::Ready => self.ready.push(image).map_err(|_| NoMemory),
+            Phase::Ready => self.ready.push(image),
             Phase::Gone => Ok(()),
             Phase::Asleep | Phase::Stopped => match self.parked.put(image.pid, image) {
                 Ok(_) => Ok(()),
@@ -84,7 +84,7 @@ impl Machine {
         ensures { OnOk result (self.new ≡ with_image child self.old) }
     {
         match child {
-            Some(child) => self.ready.push(child).map_err(|_| NoMemory),
+            Some(child) => self.ready.push(child),
             None => Ok(()),
         }
     }
@@ -98,7 +98,7 @@ impl Machine {
             return Ok(());
         };
         image.phase = woken(image.phase);
-        self.ready.push(image).map_err(|_| NoMemory)
+        self.ready.push(image)
     }
 
     fn nudge_all(&mut self, told: &[Pid]) -> Result<(), NoMemory>

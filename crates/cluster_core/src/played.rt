@@ -32,9 +32,7 @@ fn first_images(alloc: Global, world: &World) -> Result<ReadyQueue, NoMemory>
     let mut ready = ReadyQueue::new(alloc);
     for k in 0..world.starts.len() {
         let image = Image::start(alloc, world, k)?;
-        if ready.push(image).is_err() {
-            return Err(NoMemory);
-        }
+        ready.push(image)?;
     }
     Ok(ready)
 }
@@ -112,7 +110,7 @@ impl Played {
         requires room { self.old.machine.serial + 1 < 2 ^ 32 }
         ensures { OnOk result (self.new ≡ pushed world.now self.old) }
     {
-        match self.machine.ready.take_movable() {
+        match self.machine.ready.take_movable()? {
             Some(image) => self.play(alloc, world, image, &Job::Push(NodeId(0))),
             None => Ok(()),
         }

@@ -1,33 +1,36 @@
 // The images that wait for their turn.
-ghost use Rattle.std.specs.Prelude.{◌≡◌, ◌↔◌, [], ◌∷◌, ◌++◌, None, false, slice_get, IsTrue, IfSome, IfNone, IfErr, OnOk, OnErr};
-ghost use Rattle.std.specs.Option.{option_map_or};
-ghost use Rattle.cluster_core.specs.Ready.{is_stopped_phase, is_movable, first_movable, without_movable, AreStopped, IsFirstMovable};
+ghost use Rattle.std.specs.Prelude.{◌≡◌, ◌↔◌, [], ◌∷◌, ◌++◌, None, IsTrue, IfSome, IfNone, IfOk, OnOk, OnErr};
+ghost use Rattle.cluster_core.specs.Ready.{is_stopped_phase, first_movable, without_movable};
 
 use ordered_table::Queue;
 use proc_image::Image;
 use std::alloc::Global;
 use std::marker::Model;
 use unix_calls::Phase;
+use unix_names::NoMemory;
 
 /// The images that wait for their turn, which contracts see as their list, the next one at the front.
+///
+/// A push moves the first image that is not stopped. It looks past each stopped one once.
 #[derive(Debug, Drop)]
 pub struct ReadyQueue {
-    images: Queue<Image>,
-    /// So many images at the front are stopped: a push has looked past them, and the next one need not.
-    stopped: usize,
+    /// Images at the front that are all stopped.
+    stopped: Queue<Image>,
+    /// The images behind them.
+    others: Queue<Image>,
 }
 
 impl Model for ReadyQueue {
-    ghost use Rattle.std.specs.Prelude.{List};
+    ghost use Rattle.std.specs.Prelude.{◌≡◌, ◌++◌, List, None};
     ghost use Rattle.proc_image.specs.declared.image.Image.{Image as TheImage};
 
     ghost Value = { List TheImage };
 
-    ghost use Rattle.cluster_core.specs.Ready.{AreStopped};
+    ghost use Rattle.cluster_core.specs.Ready.{first_movable};
 
-    ghost view = { λ queue. queue.images };
+    ghost view = { λ queue. queue.stopped ++ queue.others };
 
-    ghost invariant = { λ queue. AreStopped queue.images queue.stopped };
+    ghost invariant = { λ queue. first_movable queue.stopped ≡ None };
 }
 
 fn is_stopped(phase: Phase) -> bool
@@ -36,28 +39,30 @@ fn is_stopped(phase: Phase) -> bool
     matches!(phase, Phase::Stopped)
 }
 
-fn is_movable(ready: &Queue<Image>, at: usize) -> bool
-    ensures { result ≡ option_map_or is_movable (slice_get ready.now at) false }
+fn join(images: &mut Queue<Image>, image: Image) -> Result<(), NoMemory>
+    ensures ok { OnOk result (images.new ≡ images.old ++ image ∷ []) }
+    ensures err { OnErr result (images.new ≡ images.old) }
 {
-    match ready.get(at) {
-        Some(image) => !is_stopped(image.phase),
-        None => false,
-    }
+    images.push(image).map_err(|_| NoMemory)
 }
 
-/// The place of the first image of the queue that is not stopped, where those before a place are.
-#[tactic(auto, using(crate::proofs::TurnLaws::none_more))]
-fn place_of_movable(ready: &Queue<Image>, from: usize) -> Option<usize>
-    requires { AreStopped ready.now from }
-    ensures some { IfSome result (IsFirstMovable ready.now) }
-    ensures none { IfNone result (first_movable ready.now ≡ None) }
+/// Takes the first image out that is not stopped; those before it join the stopped ones.
+fn take_movable(
+    stopped: &mut Queue<Image>,
+    others: &mut Queue<Image>,
+) -> Result<Option<Image>, NoMemory>
+    requires { first_movable stopped.old ≡ None }
+    ensures stopped { first_movable stopped.new ≡ None }
+    ensures first { IfOk result (λ image. image ≡ first_movable (stopped.old ++ others.old)) }
+    ensures rest { OnOk result (stopped.new ++ others.new ≡ without_movable (stopped.old ++ others.old)) }
 {
-    for at in from..ready.len() {
-        if is_movable(ready, at) {
-            return Some(at);
+    while let Some(image) = others.pop() {
+        if !is_stopped(image.phase) {
+            return Ok(Some(image));
         }
+        join(stopped, image)?;
     }
-    None
+    Ok(None)
 }
 
 impl ReadyQueue {
@@ -65,24 +70,23 @@ impl ReadyQueue {
         ensures { result ≡ [] }
     {
         ReadyQueue {
-            images: Queue::new(alloc),
-            stopped: 0,
+            stopped: Queue::new(alloc),
+            others: Queue::new(alloc),
         }
     }
 
     pub fn is_empty(&self) -> bool
         ensures { IsTrue result ↔ (self.now ≡ []) }
     {
-        self.images.is_empty()
+        self.stopped.is_empty() && self.others.is_empty()
     }
 
-    /// Joins the end. An image that finds no memory comes back.
-    pub fn push(&mut self, image: Image) -> Result<(), Image>
+    /// Joins the end.
+    pub fn push(&mut self, image: Image) -> Result<(), NoMemory>
         ensures ok { OnOk result (self.new ≡ self.old ++ image ∷ []) }
         ensures err { OnErr result (self.new ≡ self.old) }
-        ensures back { IfErr result (λ x. x ≡ image) }
     {
-        self.images.push(image)
+        join(&mut self.others, image)
     }
 
     /// The first leaves.
@@ -91,24 +95,17 @@ impl ReadyQueue {
         ensures none { IfNone result (self.old ≡ []) }
         ensures none_new { IfNone result (self.new ≡ []) }
     {
-        self.stopped = self.stopped.saturating_sub(1);
-        self.images.pop()
+        match self.stopped.pop() {
+            Some(image) => Some(image),
+            None => self.others.pop(),
+        }
     }
 
     /// The first image that is not stopped leaves; the others keep their order.
-    pub fn take_movable(&mut self) -> Option<Image>
-        ensures first { result ≡ first_movable self.old }
-        ensures rest { self.new ≡ without_movable self.old }
+    pub fn take_movable(&mut self) -> Result<Option<Image>, NoMemory>
+        ensures first { IfOk result (λ image. image ≡ first_movable self.old) }
+        ensures rest { OnOk result (self.new ≡ without_movable self.old) }
     {
-        match place_of_movable(&self.images, self.stopped) {
-            Some(at) => {
-                self.stopped = at;
-                self.images.remove(at)
-            }
-            None => {
-                self.stopped = self.images.len();
-                None
-            }
-        }
+        take_movable(&mut self.stopped, &mut self.others)
     }
 }
