@@ -2,8 +2,6 @@
 #![tactic(auto)]
 
 mod courier;
-#[cfg(test)]
-mod tests;
 mod wants;
 
 pub use courier::{Courier, Message};

@@ -2,4 +2,3 @@ pub mod Names
 pub mod Kinds
 pub mod Bags
 pub mod Decisions
-pub mod Elsewhere

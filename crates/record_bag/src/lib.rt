@@ -3,8 +3,6 @@
 
 mod bag;
 mod held;
-#[cfg(test)]
-mod tests;
 mod vector;
 
 pub use bag::Bag;

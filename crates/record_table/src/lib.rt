@@ -3,8 +3,6 @@
 
 mod slot;
 mod slots;
-#[cfg(test)]
-mod tests;
 
 pub use slot::{Line, Slot};
 pub use slots::{Nudged, PutBack, Slots, Taken};

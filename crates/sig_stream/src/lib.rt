@@ -11,5 +11,3 @@ pub use laws::{
 };
 pub use moves::{is_listed, regroup, settle};
 
-#[cfg(test)]
-mod tests;

@@ -1,4 +1,4 @@
-use crate::{Courier, Message};
+use courier_core::{Courier, Message};
 use proc_image::Image;
 use record_bag::{Bag, Held};
 use signal_state::{Own, Sig};

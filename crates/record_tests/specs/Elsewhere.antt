@@ -1,4 +1,4 @@
--- a vector that decides nothing itself
+-- a sample vector for the tests, which decides nothing itself
 use Rattle.std.specs.Prelude.{ℕ, ◌≡◌, ◌<◌, ◌^◌, Bool, true, false, [], ◌∷◌, refl}
 use Rattle.std.proofs.Common.{lit<}
 use Rattle.std.proofs.lemmas.List.Elements.{All-nil, All-cons}

@@ -1,9 +1,9 @@
 ghost use Rattle.std.specs.Prelude.{◌<◌, ◌^◌};
-ghost use Rattle.record_bag.specs.Elsewhere.{elsewhere, lawful_elsewhere};
+ghost use Rattle.record_tests.specs.Elsewhere.{elsewhere, lawful_elsewhere};
 ghost use Rattle.signal_state.specs.Sig.{fresh};
 ghost use Rattle.unix_calls.specs.declared.Job.TheVariants.{Look};
 
-use crate::{Bag, Held, OpVector, Outcome, Site};
+use record_bag::{Bag, Held, OpVector, Outcome, Site};
 use group_record::Group;
 use signal_state::{Own, Sig};
 use std::alloc::Global;

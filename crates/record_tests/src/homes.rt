@@ -1,4 +1,4 @@
-use crate::{Nudged, PutBack, Slots, Taken};
+use record_table::{Nudged, PutBack, Slots, Taken};
 use record_bag::Held;
 use std::alloc::Global;
 use std::test::Fail;
