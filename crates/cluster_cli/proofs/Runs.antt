@@ -26,12 +26,12 @@ use Rattle.script_laws.proofs.Words.{words_same}
 use Rattle.script_laws.proofs.Exact.{read_is_file}
 use Rattle.run_text.specs.Schedule.{SoFar, added, after_line, turns_of, turn_of, read_turn, counted, schedule}
 use Rattle.unix_calls.specs.Turns.{turns_in, turns_total}
-use Rattle.cluster_core.specs.Run.{run}
-use Rattle.cluster_laws.proofs.Runs.{run_legal, run_follows, run_whole}
-use Rattle.cluster_laws.proofs.Finishing.{quiet_finished}
+use Rattle.solo_core.specs.Run.{run}
+use Rattle.solo_laws.proofs.Runs.{run_legal, run_follows, run_whole}
+use Rattle.solo_laws.proofs.Finishing.{quiet_finished}
 use Rattle.cluster_cli.specs.Replay.{run_text, Runs}
 use Rattle.cluster_cli.specs.Ends.{input_limit}
-use Rattle.cluster_laws.specs.Laws.{CanRun}
+use Rattle.solo_laws.specs.Laws.{CanRun}
 use Rattle.cluster_cli.specs.declared.input.Given.{Given}
 use Rattle.cluster_cli.specs.Found.{asks_many, is_many, many_nodes, meaning, with_schedule, with_turns, turns_given, refused_history, without_history, least, on_one_node, runnable}
 use Rattle.cluster_cli.specs.Input.{IsRun, Means}
