@@ -4,7 +4,7 @@ use Rattle.std.proofs.lemmas.Bool.{cases_order}
 use Rattle.std.proofs.lemmas.List.{take-take}
 use Rattle.unix_calls.specs.declared.Entry.{Entry}
 use Rattle.unix_calls.specs.declared.World.{World}
-use Rattle.kernel_rules.specs.declared.Row.{Row}
+use Rattle.process_table.specs.declared.Row.{Row}
 use Rattle.kernel_model.specs.declared.Rule.{Rule}
 use Rattle.kernel_model.specs.declared.Rule.TheVariants.{UnknownProcess, ScriptOrder, SignalFirst, WrongReply, WrongEvent}
 use Rattle.kernel_model.specs.declared.Verdict.{Verdict}

@@ -6,14 +6,14 @@ use Rattle.unix_calls.specs.declared.Event.TheVariants.{Caught, Discarded, Stopp
 use Rattle.unix_calls.specs.declared.Entry.{Entry}
 use Rattle.unix_calls.specs.declared.Entry.TheVariants.{Called, Happened}
 use Rattle.unix_calls.specs.declared.World.{World}
-use Rattle.kernel_rules.specs.declared.Row.{Row}
+use Rattle.process_table.specs.declared.Row.{Row}
 use Rattle.kernel_model.specs.declared.Rule.{Rule}
 use Rattle.kernel_model.specs.declared.Rule.TheVariants.{UnknownProcess, ScriptOrder, SignalFirst, WrongReply, WrongEvent}
 use Rattle.kernel_model.specs.declared.Verdict.{Verdict}
 use Rattle.kernel_model.specs.declared.Verdict.TheVariants.{Legal, Illegal}
-use Rattle.kernel_rules.specs.Rows.{row_of}
-use Rattle.kernel_rules.specs.Replies.{allows}
-use Rattle.kernel_rules.specs.Conditions.{can_call, may_happen}
+use Rattle.process_table.specs.Rows.{row_of}
+use Rattle.kernel_rules.specs.Calls.{allows}
+use Rattle.kernel_rules.specs.Events.{can_call, may_happen}
 use Rattle.kernel_model.specs.Sound.{IsAlive}
 use Rattle.kernel_model.specs.Step.{event_verdict, row_verdict, process_of, verdict_at, verdict}
 use Rattle.proc_image.specs.Follows.{Running, IsInOrder}

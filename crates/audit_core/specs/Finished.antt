@@ -11,10 +11,10 @@ use Rattle.unix_calls.specs.declared.Reply.TheVariants.{Number, Again}
 use Rattle.unix_calls.specs.declared.Entry.{Entry}
 use Rattle.unix_calls.specs.declared.Entry.TheVariants.{Called, Happened}
 use Rattle.unix_calls.specs.declared.World.{World}
-use Rattle.kernel_rules.specs.declared.Row.{Row}
-use Rattle.kernel_rules.specs.Rows.{row_of}
-use Rattle.kernel_rules.specs.Replies.{allows}
-use Rattle.kernel_rules.specs.Conditions.{can_call}
+use Rattle.process_table.specs.declared.Row.{Row}
+use Rattle.process_table.specs.Rows.{row_of}
+use Rattle.kernel_rules.specs.Calls.{allows}
+use Rattle.kernel_rules.specs.Events.{can_call}
 use Rattle.kernel_model.specs.Legal.{after_all}
 use Rattle.proc_image.specs.Scripts.{Progress, next_call, stands_again}
 use Rattle.audit_core.specs.Judge.{running_after}

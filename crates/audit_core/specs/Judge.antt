@@ -2,12 +2,12 @@
 use Rattle.std.specs.Prelude.{◌≡◌, ◌<◌, ℕ, suc, Bool, true, false, List, take, slice_get, Some}
 use Rattle.unix_calls.specs.declared.Entry.{Entry}
 use Rattle.unix_calls.specs.declared.World.{World}
-use Rattle.kernel_rules.specs.declared.Row.{Row}
+use Rattle.process_table.specs.declared.Row.{Row}
 use Rattle.kernel_model.specs.declared.Rule.{Rule}
 use Rattle.kernel_model.specs.declared.Rule.TheVariants.{UnknownProcess, ScriptOrder, SignalFirst, WrongReply, WrongEvent}
 use Rattle.kernel_model.specs.declared.Verdict.{Verdict}
 use Rattle.kernel_model.specs.declared.Verdict.TheVariants as kernel
-use Rattle.kernel_rules.specs.Rows.{row_of}
+use Rattle.process_table.specs.Rows.{row_of}
 use Rattle.kernel_model.specs.Sound.{IsAlive}
 use Rattle.kernel_model.specs.Step.{process_of, verdict}
 use Rattle.kernel_model.specs.Legal.{after_all, IsLegal}

@@ -4,8 +4,8 @@ use Rattle.proc_image.specs.declared.image.Image.{Image}
 use Rattle.kernel_model.specs.Legal.{IsLegal}
 use Rattle.proc_image.specs.Follows.{Follows}
 use Rattle.run_text.specs.History.{text}
-use Rattle.cluster_core.specs.declared.played.Played.{Played}
-use Rattle.cluster_core.specs.Run.{run, IsQuiet}
+use Rattle.solo_core.specs.declared.played.Played.{Played}
+use Rattle.solo_core.specs.Run.{run, IsQuiet}
 use Rattle.audit_core.specs.Finished.{IsFinished}
 use Rattle.cluster_cli.specs.declared.status.Status.TheVariants.{Done, BadFile}
 use Rattle.cluster_cli.specs.Ends.{Texts}

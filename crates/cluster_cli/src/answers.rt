@@ -1,7 +1,7 @@
 // What a command says of an input.
 ghost use Rattle.std.specs.Prelude.{◌≡◌, ◌≤◌, ◌+◌, ℕ, IfOk, Ok, Err, All, length};
-ghost use Rattle.cluster_core.specs.Run.{run};
-ghost use Rattle.cluster_laws.specs.Laws.{CanRun};
+ghost use Rattle.solo_core.specs.Run.{run};
+ghost use Rattle.solo_laws.specs.Laws.{CanRun};
 ghost use Rattle.cluster_cli.specs.Ends.{HasText, input_limit};
 ghost use Rattle.cluster_cli.specs.Input.{fault_text, Means};
 ghost use Rattle.cluster_cli.specs.Replay.{run_text, Replays};
@@ -15,7 +15,7 @@ ghost use Rattle.unix_calls.specs.Valid.{IsValid};
 use crate::input::{Given, read_given, read_runnable};
 use crate::status::Status;
 use audit_core::{Judged, audit as judge};
-use cluster_core::run;
+use solo_core::run;
 use file_parts::{Parts, Span, split};
 use history_reader::{TextRefusal, read_history};
 use kernel_model::Rule;

@@ -1,13 +1,13 @@
 // What a made file of one node comes to.
 ghost use Rattle.std.specs.Prelude.{◌≡◌, ◌+◌, IfOk, length};
-ghost use Rattle.cluster_core.specs.Run.{run};
-ghost use Rattle.cluster_laws.specs.Laws.{CanRun};
+ghost use Rattle.solo_core.specs.Run.{run};
+ghost use Rattle.solo_laws.specs.Laws.{CanRun};
 ghost use Rattle.cluster_cli.specs.Commands.{IsWithin};
 ghost use Rattle.cluster_cli.specs.Load.{is_fork, fork_count, load_turns, counts_text, load_text, Loads};
 ghost use Rattle.cluster_cli.specs.Replay.{is_empty};
 
 use crate::input::DEFAULT_TURNS;
-use cluster_core::run;
+use solo_core::run;
 use file_parts::Span;
 use load_maker::make;
 use script_reader::read_file;

@@ -16,9 +16,9 @@ use Rattle.unix_calls.specs.declared.Event.{Event}
 use Rattle.unix_calls.specs.declared.Event.TheVariants.{Caught, Discarded, StoppedBy, EndedBy, Continued}
 use Rattle.signal_state.specs.Signals.{Signals, IsKept}
 use Rattle.signal_state.specs.Sig.{deliverable, drops_by_default, is_dropped_by_default, IsClear}
-use Rattle.kernel_rules.specs.declared.rows.Row.{Row}
-use Rattle.kernel_rules.specs.Orphans.{is_orphaned}
-use Rattle.kernel_rules.specs.Conditions.{is_deliverable, has_default_action, acts_by_default, is_caught, is_stop_act, is_end_act, is_stop_signal, is_plain_stop, is_spared, is_discarded, stops, ends, may_happen}
+use Rattle.process_table.specs.declared.Row.{Row}
+use Rattle.process_table.specs.Orphans.{is_orphaned}
+use Rattle.kernel_rules.specs.Events.{is_deliverable, has_default_action, acts_by_default, is_caught, is_stop_act, is_end_act, is_stop_signal, is_plain_stop, is_spared, is_discarded, stops, ends, may_happen}
 use Rattle.kernel_choice.specs.Choice.{event_of, least_deliverable, first_event}
 use Rattle.kernel_choice.specs.Laws.{IsQuiet}
 

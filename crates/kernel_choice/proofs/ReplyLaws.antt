@@ -17,10 +17,13 @@ use Rattle.unix_calls.specs.declared.Reply.TheVariants.{Fine, Number, Set, Child
 use Rattle.unix_calls.specs.declared.Entry.TheVariants.{Called}
 use Rattle.unix_calls.specs.declared.Selector.{Selector}
 use Rattle.unix_calls.specs.Calls.{HasNames, EntryHasNames, selector_of}
-use Rattle.kernel_rules.specs.declared.rows.Row.{Row}
-use Rattle.kernel_rules.specs.Rows.{is_pid, row_of, row_named, AreDistinct}
-use Rattle.kernel_rules.specs.Refusals.{is_match, refusal}
-use Rattle.kernel_rules.specs.Replies.{is_no_reply, is_group_of, is_session_of, is_fresh, report_of, is_ready_match, is_same_status, is_wait_answer, is_answer, is_same_errno, is_first, allows}
+use Rattle.process_table.specs.declared.Row.{Row}
+use Rattle.process_table.specs.Rows.{is_pid, row_of, row_named, AreDistinct}
+use Rattle.kernel_rules.specs.Wait.{is_match, report_of, is_ready_match, is_same_status, is_wait_answer}
+use Rattle.kernel_rules.specs.Calls.{refusal, is_answer, allows}
+use Rattle.kernel_rules.specs.Replies.{is_no_reply, is_same_errno, is_first}
+use Rattle.kernel_rules.specs.Look.{is_group_of, is_session_of}
+use Rattle.kernel_rules.specs.Fork.{is_fresh}
 use Rattle.kernel_choice.specs.Choice.{group_reply, session_reply, report_reply, child_reply, answer_of, refused_or, reply_of}
 use Rattle.kernel_choice.specs.Laws.{is_exit}
 

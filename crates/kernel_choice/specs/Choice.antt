@@ -15,11 +15,11 @@ use Rattle.unix_calls.specs.declared.Reply.TheVariants.{Fine, Number, Set, Child
 use Rattle.unix_calls.specs.declared.Event.{Event}
 use Rattle.unix_calls.specs.declared.Event.TheVariants.{Caught, Discarded, StoppedBy, EndedBy, Continued}
 use Rattle.unix_calls.specs.Calls.{selector_of}
-use Rattle.kernel_rules.specs.declared.rows.Row.{Row}
-use Rattle.kernel_rules.specs.Rows.{row_named}
-use Rattle.kernel_rules.specs.Refusals.{refusal}
-use Rattle.kernel_rules.specs.Replies.{report_of, is_ready_match}
-use Rattle.kernel_rules.specs.Conditions.{is_deliverable, is_caught, is_discarded, stops}
+use Rattle.process_table.specs.declared.Row.{Row}
+use Rattle.process_table.specs.Rows.{row_named}
+use Rattle.kernel_rules.specs.Calls.{refusal}
+use Rattle.kernel_rules.specs.Wait.{report_of, is_ready_match}
+use Rattle.kernel_rules.specs.Events.{is_deliverable, is_caught, is_discarded, stops}
 
 -- ---- events
 -- what a deliverable signal does

@@ -11,10 +11,11 @@ use Rattle.unix_calls.specs.declared.Event.{Event}
 use Rattle.unix_calls.specs.Calls.{HasNames, EntryHasNames}
 use Rattle.signal_state.specs.Signals.{IsKept}
 use Rattle.signal_state.specs.Sig.{deliverable, IsClear}
-use Rattle.kernel_rules.specs.declared.rows.Row.{Row}
-use Rattle.kernel_rules.specs.Rows.{AreDistinct}
-use Rattle.kernel_rules.specs.Replies.{is_fresh, allows}
-use Rattle.kernel_rules.specs.Conditions.{may_happen}
+use Rattle.process_table.specs.declared.Row.{Row}
+use Rattle.process_table.specs.Rows.{AreDistinct}
+use Rattle.kernel_rules.specs.Fork.{is_fresh}
+use Rattle.kernel_rules.specs.Calls.{allows}
+use Rattle.kernel_rules.specs.Events.{may_happen}
 use Rattle.kernel_choice.specs.Choice.{first_event, reply_of}
 
 -- the event that is chosen may happen

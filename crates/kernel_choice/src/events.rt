@@ -1,10 +1,12 @@
 // The event that happens first.
 ghost use Rattle.std.specs.Prelude.{◌≡◌, ◌↔◌, IsNone};
 ghost use Rattle.signal_state.specs.Sig.{deliverable, IsClear};
-ghost use Rattle.kernel_rules.specs.Conditions.{is_deliverable};
+ghost use Rattle.kernel_rules.specs.Events.{is_deliverable};
 ghost use Rattle.kernel_choice.specs.Choice.{event_of, least_deliverable, first_event};
 
-use kernel_rules::{ProcessTable, Row, is_caught, is_discarded, stops};
+use process_table::{ProcessTable, Row};
+
+use kernel_rules::{is_caught, is_discarded, stops};
 use unix_calls::Event;
 use unix_names::Signal;
 

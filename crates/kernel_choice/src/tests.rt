@@ -1,6 +1,6 @@
 // One table: 2 has the children 3, which has ended, 4, which has stopped, and 5, which runs.
 use crate::{first_event, reply_of};
-use kernel_rules::{ProcessTable, Row};
+use process_table::{ProcessTable, Row};
 use signal_state::Sig;
 use std::alloc::Global;
 use std::test::Fail;

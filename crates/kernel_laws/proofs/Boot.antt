@@ -11,8 +11,8 @@ use Rattle.unix_calls.specs.declared.World.{World}
 use Rattle.unix_calls.specs.Valid.{IsValid}
 use Rattle.signal_state.specs.Signals.{IsKept}
 use Rattle.signal_state.specs.Sig.{fresh}
-use Rattle.kernel_rules.specs.declared.rows.Row.{Row}
-use Rattle.kernel_rules.specs.Rows.{is_parent, is_stopped, row_of, child_count}
+use Rattle.process_table.specs.declared.Row.{Row}
+use Rattle.process_table.specs.Rows.{is_parent, is_stopped, row_of, child_count}
 use Rattle.kernel_model.specs.Step.{after}
 use Rattle.kernel_model.specs.Legal.{joined_row, row_with, first_row, booted, boot, after_entries, IsLegalFrom}
 use Rattle.kernel_model.specs.Sound.{IsSoundRow, IsSound}

@@ -13,11 +13,9 @@ use Rattle.unix_names.specs.States.{is_living}
 use Rattle.signal_state.specs.Signals.{Signals, IsKept}
 use Rattle.signal_state.specs.Sig.{after_exec, with_action, with_mask, delivered, stopped_by, resumed}
 use Rattle.signal_state.proofs.Folds.{kept-generated_all, stopped-generated_all}
-use Rattle.kernel_rules.specs.declared.rows.Row.{Row}
-use Rattle.kernel_rules.specs.Rows.{is_pid}
-use Rattle.kernel_model.specs.Sent.{receives, received}
-use Rattle.kernel_model.specs.Events.{delivered_at, stopped_at, continued_at}
-use Rattle.kernel_model.specs.Step.{execed_at, is_ended_at, reported_at, acting_at, masked_at}
+use Rattle.process_table.specs.declared.Row.{Row}
+use Rattle.process_table.specs.Rows.{is_pid, is_ended_at}
+use Rattle.process_table.specs.Changes.{receives, received, delivered_at, stopped_at, continued_at, execed_at, reported_at, acting_at, masked_at}
 use Rattle.kernel_model.specs.Sound.{IsSound}
 use Rattle.kernel_laws.proofs.SignalFacts.{kept_choice, kept-after_exec, kept-with_mask, kept-delivered, kept-stopped_by, kept-resumed, kept-action}
 use Rattle.kernel_laws.proofs.Plain.{IsRowKept, local_sound, plain_sound}

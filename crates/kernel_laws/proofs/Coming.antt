@@ -8,9 +8,11 @@ use Rattle.unix_calls.specs.declared.Call.TheVariants.{Fork}
 use Rattle.unix_calls.specs.declared.Reply.TheVariants.{Number}
 use Rattle.unix_calls.specs.declared.Entry.{Entry}
 use Rattle.unix_calls.specs.declared.Entry.TheVariants.{Called, Happened}
-use Rattle.kernel_rules.specs.declared.rows.Row.{Row}
-use Rattle.kernel_rules.specs.Rows.{is_pid, row_of, AreDistinct}
-use Rattle.kernel_model.specs.Step.{process_of, newborn, regrouped_at, leading_at}
+use Rattle.process_table.specs.declared.Row.{Row}
+use Rattle.process_table.specs.Rows.{is_pid, row_of, AreDistinct}
+use Rattle.kernel_model.specs.Step.{process_of}
+use Rattle.kernel_rules.specs.Fork.{newborn}
+use Rattle.process_table.specs.Changes.{regrouped_at, leading_at}
 use Rattle.list_laws.specs.Keyed.{option_filter}
 use Rattle.list_laws.proofs.Finding.{at-append, comes-append}
 use Rattle.kernel_laws.specs.Effects.{is_end, IsForkOf, LivingStay, OnlyForksAdd}

@@ -7,10 +7,10 @@ use Rattle.unix_names.specs.declared.Signal.{Signal}
 use Rattle.unix_names.specs.declared.Life.TheVariants.{Ended}
 use Rattle.unix_names.specs.declared.WaitStatus.{WaitStatus}
 use Rattle.unix_names.specs.States.{is_living}
-use Rattle.kernel_rules.specs.declared.rows.Row.{Row}
-use Rattle.kernel_rules.specs.Rows.{pid, is_pid, is_parent, row_of, AreDistinct}
-use Rattle.kernel_model.specs.Sent.{receives, received}
-use Rattle.kernel_model.specs.Ending.{ended_at, is_vanishing, given_up, is_ended_child, rows_left, sent_by_end, after_end}
+use Rattle.process_table.specs.declared.Row.{Row}
+use Rattle.process_table.specs.Rows.{pid, is_pid, is_parent, row_of, AreDistinct, is_ended_child}
+use Rattle.process_table.specs.Changes.{receives, received, ended_at, given_up}
+use Rattle.kernel_rules.specs.Ending.{is_vanishing, rows_left, sent_by_end, after_end}
 use Rattle.kernel_model.specs.Sound.{IsSound}
 use Rattle.list_laws.specs.Keyed.{option_filter}
 use Rattle.list_laws.proofs.Filters.{filter-map, filter-filter, map-map, and_false, some_same, mapped_some, option_map-map}

@@ -6,10 +6,9 @@ use Rattle.std.specs.Option.{option_or}
 use Rattle.std.proofs.lemmas.Bool.{eqb-true, eq-eqb, and_parts, or_parts, leb-true}
 use Rattle.unix_names.specs.declared.Pid.{Pid}
 use Rattle.unix_names.specs.States.{is_living}
-use Rattle.kernel_rules.specs.declared.rows.Row.{Row}
-use Rattle.kernel_rules.specs.Rows.{pid, is_parent, row_of, child_count}
-use Rattle.kernel_rules.specs.Replies.{uses_number, is_fresh}
-use Rattle.kernel_model.specs.Step.{newborn}
+use Rattle.process_table.specs.declared.Row.{Row}
+use Rattle.process_table.specs.Rows.{pid, is_parent, row_of, child_count}
+use Rattle.kernel_rules.specs.Fork.{uses_number, is_fresh, newborn}
 use Rattle.kernel_model.specs.Sound.{IsAlive, IsSoundRow, IsSound}
 use Rattle.list_laws.specs.Keyed.{one_if}
 use Rattle.list_laws.proofs.Finding.{at-append, comes-append, distinct-append}

@@ -22,15 +22,20 @@ use Rattle.unix_calls.specs.declared.Entry.{Entry}
 use Rattle.unix_calls.specs.declared.Entry.TheVariants.{Called, Happened}
 use Rattle.unix_calls.specs.declared.Target.{Target}
 use Rattle.unix_calls.specs.Calls.{target_of}
-use Rattle.kernel_rules.specs.declared.rows.Row.{Row}
+use Rattle.process_table.specs.declared.Row.{Row}
 use Rattle.kernel_model.specs.declared.verdict.Verdict.TheVariants.{Legal}
-use Rattle.kernel_rules.specs.Rows.{pid, is_pid, is_parent, in_group, row_of, row_named}
-use Rattle.kernel_rules.specs.Refusals.{target_pid, wanted_group, fork_refusal, regroup_refusal, setsid_refusal}
-use Rattle.kernel_rules.specs.Replies.{is_fresh, allows}
-use Rattle.kernel_model.specs.Sent.{receives, sent_to_parent, sent_by_kill}
-use Rattle.kernel_model.specs.Ending.{sent_by_end, after_end}
-use Rattle.kernel_model.specs.Events.{delivered_at, stopped_at, continued_at, after_event}
-use Rattle.kernel_model.specs.Step.{newborn, execed_at, is_ended_at, reported_at, regrouped_at, leading_at, acting_at, masked_at, after_fork, after_wait, after_kill, after_setpgid, after_setsid, after_action, after_call, row_after, row_verdict}
+use Rattle.process_table.specs.Rows.{pid, is_pid, is_parent, in_group, row_of, row_named, is_ended_at}
+use Rattle.kernel_rules.specs.Setpgid.{target_pid, wanted_group, regroup_refusal, after_setpgid}
+use Rattle.kernel_rules.specs.Fork.{fork_refusal, is_fresh, newborn, after_fork}
+use Rattle.kernel_rules.specs.Setsid.{setsid_refusal, after_setsid}
+use Rattle.kernel_rules.specs.Calls.{allows, after_call}
+use Rattle.process_table.specs.Changes.{receives, delivered_at, stopped_at, continued_at, execed_at, reported_at, regrouped_at, leading_at, acting_at, masked_at}
+use Rattle.kernel_rules.specs.Ending.{sent_to_parent, sent_by_end, after_end}
+use Rattle.kernel_rules.specs.Kill.{sent_by_kill, after_kill}
+use Rattle.kernel_rules.specs.Events.{after_event}
+use Rattle.kernel_rules.specs.Wait.{after_wait}
+use Rattle.kernel_rules.specs.Action.{after_action}
+use Rattle.kernel_model.specs.Step.{row_after, row_verdict}
 use Rattle.list_laws.proofs.Filters.{map-map, map-id, filter-all}
 use Rattle.kernel_laws.specs.Effects.{IsUnused, is_end}
 use Rattle.kernel_laws.proofs.Rows.{one_row}

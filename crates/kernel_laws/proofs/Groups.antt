@@ -7,9 +7,9 @@ use Rattle.std.proofs.lemmas.Bool.{eqb-true, eq-eqb, and_parts}
 use Rattle.unix_names.specs.declared.Pid.{Pid}
 use Rattle.unix_names.specs.States.{is_living}
 use Rattle.signal_state.specs.Signals.{IsKept}
-use Rattle.kernel_rules.specs.declared.rows.Row.{Row}
-use Rattle.kernel_rules.specs.Rows.{is_same, is_pid, is_parent, in_group, in_session, is_stopped, row_of, child_count}
-use Rattle.kernel_model.specs.Step.{regrouped_at, leading_at}
+use Rattle.process_table.specs.declared.Row.{Row}
+use Rattle.process_table.specs.Rows.{is_same, is_pid, is_parent, in_group, in_session, is_stopped, row_of, child_count}
+use Rattle.process_table.specs.Changes.{regrouped_at, leading_at}
 use Rattle.kernel_model.specs.Sound.{IsAlive, IsSoundRow, IsSound}
 use Rattle.list_laws.proofs.Filters.{length-filter-map}
 use Rattle.list_laws.proofs.Finding.{at-map, distinct-map, comes-map}

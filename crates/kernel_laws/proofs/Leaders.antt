@@ -5,11 +5,13 @@ use Rattle.std.specs.List.{list_any}
 use Rattle.std.proofs.lemmas.Bool.{eqb-true, eq-eqb, or_parts}
 use Rattle.unix_names.specs.declared.Pid.{Pid}
 use Rattle.unix_calls.specs.declared.Entry.{Entry}
-use Rattle.kernel_rules.specs.declared.rows.Row.{Row}
+use Rattle.process_table.specs.declared.Row.{Row}
 use Rattle.kernel_model.specs.declared.verdict.Verdict.TheVariants.{Legal}
-use Rattle.kernel_rules.specs.Rows.{is_pid, in_group, is_session_leader, row_of, AreDistinct}
-use Rattle.kernel_rules.specs.Refusals.{is_fixed_in_group}
-use Rattle.kernel_model.specs.Step.{process_of, verdict, newborn, regrouped_at, leading_at, after}
+use Rattle.process_table.specs.Rows.{is_pid, in_group, is_session_leader, row_of, AreDistinct}
+use Rattle.kernel_rules.specs.Setpgid.{is_fixed_in_group}
+use Rattle.kernel_model.specs.Step.{process_of, verdict, after}
+use Rattle.kernel_rules.specs.Fork.{newborn}
+use Rattle.process_table.specs.Changes.{regrouped_at, leading_at}
 use Rattle.kernel_model.specs.Legal.{boot, after_entries, IsLegalFrom}
 use Rattle.kernel_model.specs.Sound.{IsSound}
 use Rattle.list_laws.proofs.Filters.{some_same}

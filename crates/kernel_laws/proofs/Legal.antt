@@ -8,14 +8,15 @@ use Rattle.unix_calls.specs.declared.Reply.TheVariants.{Fine, Number}
 use Rattle.unix_calls.specs.declared.Event.{Event}
 use Rattle.unix_calls.specs.declared.Event.TheVariants.{Caught, Discarded, StoppedBy, EndedBy, Continued, Moved}
 use Rattle.unix_calls.specs.declared.Entry.{Entry}
-use Rattle.kernel_rules.specs.declared.rows.Row.{Row}
+use Rattle.process_table.specs.declared.Row.{Row}
 use Rattle.kernel_model.specs.declared.verdict.Rule.{Rule}
 use Rattle.kernel_model.specs.declared.verdict.Rule.TheVariants.{UnknownProcess, SignalFirst, WrongReply, WrongEvent}
 use Rattle.kernel_model.specs.declared.verdict.Verdict.{Verdict}
 use Rattle.kernel_model.specs.declared.verdict.Verdict.TheVariants.{Legal, Illegal}
-use Rattle.kernel_rules.specs.Rows.{row_of}
-use Rattle.kernel_rules.specs.Replies.{allows, is_first}
-use Rattle.kernel_rules.specs.Conditions.{can_call, may_happen}
+use Rattle.process_table.specs.Rows.{row_of}
+use Rattle.kernel_rules.specs.Calls.{allows}
+use Rattle.kernel_rules.specs.Replies.{is_first}
+use Rattle.kernel_rules.specs.Events.{can_call, may_happen}
 use Rattle.kernel_model.specs.Step.{call_verdict, event_verdict, row_verdict, process_of, verdict_at, verdict, row_after, after_at, after}
 
 -- ---- choices that came out legal

@@ -11,10 +11,12 @@ use Rattle.unix_calls.specs.declared.Call.TheVariants.{Setpgid}
 use Rattle.unix_calls.specs.declared.Reply.TheVariants.{Fine}
 use Rattle.unix_calls.specs.declared.Entry.{Entry}
 use Rattle.unix_calls.specs.declared.Entry.TheVariants.{Called, Happened}
-use Rattle.kernel_rules.specs.declared.rows.Row.{Row}
-use Rattle.kernel_rules.specs.Rows.{is_pid, in_group, in_session, row_of, AreDistinct}
-use Rattle.kernel_rules.specs.Orphans.{is_outside_parent, is_link_of}
-use Rattle.kernel_model.specs.Step.{process_of, newborn, regrouped_at, leading_at}
+use Rattle.process_table.specs.declared.Row.{Row}
+use Rattle.process_table.specs.Rows.{is_pid, in_group, in_session, row_of, AreDistinct}
+use Rattle.process_table.specs.Orphans.{is_outside_parent, is_link_of}
+use Rattle.kernel_model.specs.Step.{process_of}
+use Rattle.kernel_rules.specs.Fork.{newborn}
+use Rattle.process_table.specs.Changes.{regrouped_at, leading_at}
 use Rattle.kernel_model.specs.Sound.{IsAlive, IsSound}
 use Rattle.list_laws.specs.Keyed.{at, option_filter}
 use Rattle.list_laws.proofs.Filters.{filter-all, any-map, any-filter, mapped_some}

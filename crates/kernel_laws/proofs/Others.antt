@@ -21,13 +21,19 @@ use Rattle.unix_calls.specs.declared.Entry.TheVariants.{Called, Happened}
 use Rattle.unix_calls.specs.Calls.{target_of}
 use Rattle.signal_state.specs.Signals.{Signals}
 use Rattle.signal_state.specs.Sig.{generated_all, after_exec, with_action, with_mask, delivered, stopped_by, resumed}
-use Rattle.kernel_rules.specs.declared.rows.Row.{Row}
-use Rattle.kernel_rules.specs.Rows.{pid, is_pid, row_of, AreDistinct}
-use Rattle.kernel_rules.specs.Refusals.{target_pid, wanted_group}
-use Rattle.kernel_model.specs.Sent.{receives, sent_to_parent, sent_by_kill}
-use Rattle.kernel_model.specs.Ending.{sent_by_end}
-use Rattle.kernel_model.specs.Events.{stopped_at, continued_at, after_event}
-use Rattle.kernel_model.specs.Step.{process_of, newborn, execed_at, is_ended_at, reported_at, regrouped_at, leading_at, after_fork, after_wait, after_kill, after_setpgid, after_setsid, after_action, after_call, row_after, sent_by_call, sent_by_event, sent_by_row, sent_at, sent_by_kill_call}
+use Rattle.process_table.specs.declared.Row.{Row}
+use Rattle.process_table.specs.Rows.{pid, is_pid, row_of, AreDistinct, is_ended_at}
+use Rattle.kernel_rules.specs.Setpgid.{target_pid, wanted_group, after_setpgid}
+use Rattle.process_table.specs.Changes.{receives, stopped_at, continued_at, execed_at, reported_at, regrouped_at, leading_at}
+use Rattle.kernel_rules.specs.Ending.{sent_to_parent, sent_by_end}
+use Rattle.kernel_rules.specs.Kill.{sent_by_kill, after_kill, sent_by_kill_call}
+use Rattle.kernel_rules.specs.Events.{after_event, sent_by_event}
+use Rattle.kernel_model.specs.Step.{process_of, row_after, sent_by_row, sent_at}
+use Rattle.kernel_rules.specs.Fork.{newborn, after_fork}
+use Rattle.kernel_rules.specs.Wait.{after_wait}
+use Rattle.kernel_rules.specs.Setsid.{after_setsid}
+use Rattle.kernel_rules.specs.Action.{after_action}
+use Rattle.kernel_rules.specs.Calls.{after_call, sent_by_call}
 use Rattle.list_laws.proofs.Filters.{some_same, map-map}
 use Rattle.list_laws.proofs.Finding.{at-append}
 use Rattle.kernel_laws.specs.Effects.{is_end, is_report_of, is_regrouping_of, IsSignalled, OthersAreSignalled}

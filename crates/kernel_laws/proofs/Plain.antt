@@ -6,8 +6,8 @@ use Rattle.std.proofs.lemmas.Bool.{eqb-true, and_parts}
 use Rattle.unix_names.specs.declared.Pid.{Pid}
 use Rattle.unix_names.specs.States.{is_living}
 use Rattle.signal_state.specs.Signals.{IsKept}
-use Rattle.kernel_rules.specs.declared.rows.Row.{Row}
-use Rattle.kernel_rules.specs.Rows.{is_parent, is_stopped, row_of, child_count}
+use Rattle.process_table.specs.declared.Row.{Row}
+use Rattle.process_table.specs.Rows.{is_parent, is_stopped, row_of, child_count}
 use Rattle.kernel_model.specs.Sound.{IsAlive, IsSoundRow, IsSound}
 use Rattle.list_laws.specs.Keyed.{option_filter}
 use Rattle.list_laws.proofs.Filters.{filter-filter, filter-all, length-filter-map}

@@ -4,8 +4,8 @@ use Rattle.std.specs.Prelude.{map, filter}
 use Rattle.std.specs.Option.{option_map}
 use Rattle.std.proofs.lemmas.Bool.{eqb-true}
 use Rattle.unix_names.specs.declared.Pid.{Pid}
-use Rattle.kernel_rules.specs.declared.rows.Row.{Row}
-use Rattle.kernel_rules.specs.Rows.{is_pid, row_of, AreDistinct}
+use Rattle.process_table.specs.declared.Row.{Row}
+use Rattle.process_table.specs.Rows.{is_pid, row_of, AreDistinct}
 use Rattle.list_laws.specs.Keyed.{at, Distinct, option_filter}
 use Rattle.list_laws.proofs.Filters.{some_same, mapped_some}
 use Rattle.list_laws.proofs.Finding.{at-map, at-filter, found, found_here, filtered_some}

@@ -21,14 +21,20 @@ use Rattle.unix_calls.specs.declared.Entry.{Entry}
 use Rattle.unix_calls.specs.declared.Entry.TheVariants.{Called, Happened}
 use Rattle.unix_calls.specs.declared.Target.{Target}
 use Rattle.unix_calls.specs.Calls.{target_of}
-use Rattle.kernel_rules.specs.declared.rows.Row.{Row}
+use Rattle.process_table.specs.declared.Row.{Row}
 use Rattle.kernel_model.specs.declared.verdict.Verdict.TheVariants.{Legal}
-use Rattle.kernel_rules.specs.Rows.{pid, is_same, in_group, in_session, is_session_leader, row_of, row_named, child_count}
-use Rattle.kernel_rules.specs.Refusals.{target_pid, wanted_group, is_own, is_execed_child, is_in_session_group, is_fixed_in_group, regroup_refusal, setsid_refusal, fork_refusal, action_refusal}
-use Rattle.kernel_rules.specs.Replies.{is_fresh, allows}
-use Rattle.kernel_model.specs.Sent.{sent_to_parent, sent_by_kill}
-use Rattle.kernel_model.specs.Events.{stopped_at, continued_at, after_event}
-use Rattle.kernel_model.specs.Step.{after_fork, after_wait, after_kill, regrouped_at, after_setpgid, after_setsid, after_action, after_call, row_after, row_verdict}
+use Rattle.process_table.specs.Rows.{pid, is_same, in_group, in_session, is_session_leader, row_of, row_named, child_count}
+use Rattle.kernel_rules.specs.Setpgid.{target_pid, wanted_group, is_own, is_execed_child, is_in_session_group, is_fixed_in_group, regroup_refusal, after_setpgid}
+use Rattle.kernel_rules.specs.Setsid.{setsid_refusal, after_setsid}
+use Rattle.kernel_rules.specs.Fork.{fork_refusal, is_fresh, after_fork}
+use Rattle.kernel_rules.specs.Action.{action_refusal, after_action}
+use Rattle.kernel_rules.specs.Calls.{allows, after_call}
+use Rattle.kernel_rules.specs.Ending.{sent_to_parent}
+use Rattle.kernel_rules.specs.Kill.{sent_by_kill, after_kill}
+use Rattle.process_table.specs.Changes.{stopped_at, continued_at, regrouped_at}
+use Rattle.kernel_rules.specs.Events.{after_event}
+use Rattle.kernel_rules.specs.Wait.{after_wait}
+use Rattle.kernel_model.specs.Step.{row_after, row_verdict}
 use Rattle.kernel_model.specs.Sound.{IsSound}
 use Rattle.kernel_laws.specs.Tables.{StepKeepsSound}
 use Rattle.kernel_laws.proofs.Rows.{row_pid, row_here}

@@ -14,11 +14,11 @@ use Rattle.unix_calls.specs.Calls.{target_of}
 use Rattle.unix_names.specs.declared.Act.{Act}
 use Rattle.signal_state.specs.Signals.{Signals}
 use Rattle.signal_state.specs.Sig.{generated, generated_all, after_exec, with_action, with_mask, delivered, stopped_by, resumed}
-use Rattle.kernel_rules.specs.declared.rows.Row.{Row}
+use Rattle.process_table.specs.declared.Row.{Row}
 use Rattle.kernel_model.specs.declared.verdict.Verdict.TheVariants.{Legal}
 use Rattle.kernel_model.specs.Sound.{IsSound}
-use Rattle.kernel_rules.specs.Rows.{is_pid, is_parent, row_of}
-use Rattle.kernel_rules.specs.Refusals.{is_permitted}
+use Rattle.process_table.specs.Rows.{is_pid, is_parent, row_of}
+use Rattle.kernel_rules.specs.Kill.{is_permitted}
 use Rattle.kernel_model.specs.Step.{process_of, verdict, after, sent}
 
 -- ---- what changes of a row beside its signals

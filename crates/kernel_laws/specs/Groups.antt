@@ -7,11 +7,11 @@ use Rattle.unix_calls.specs.declared.Reply.TheVariants.{Fine}
 use Rattle.unix_calls.specs.declared.Entry.{Entry}
 use Rattle.unix_calls.specs.declared.Entry.TheVariants.{Called}
 use Rattle.unix_calls.specs.declared.World.{World}
-use Rattle.kernel_rules.specs.declared.rows.Row.{Row}
+use Rattle.process_table.specs.declared.Row.{Row}
 use Rattle.kernel_model.specs.declared.verdict.Verdict.TheVariants.{Legal}
-use Rattle.kernel_rules.specs.Rows.{in_group, row_of}
-use Rattle.kernel_rules.specs.Orphans.{is_orphaned}
-use Rattle.kernel_rules.specs.Refusals.{target_pid, wanted_group}
+use Rattle.process_table.specs.Rows.{in_group, row_of}
+use Rattle.process_table.specs.Orphans.{is_orphaned}
+use Rattle.kernel_rules.specs.Setpgid.{target_pid, wanted_group}
 use Rattle.kernel_model.specs.Step.{verdict, after}
 use Rattle.kernel_model.specs.Legal.{after_all, IsLegal}
 use Rattle.kernel_model.specs.Sound.{IsSound}

@@ -1,16 +1,15 @@
 -- the first table of a world, and legal histories
-use Rattle.std.specs.Prelude.{ℕ, ◌≡◌, List, [], ◌∷◌, ◌++◌, Option, None, Some, slice_get}
+use Rattle.std.specs.Prelude.{ℕ, ◌≡◌, List, [], ◌∷◌, ◌++◌, Option, None, Some, slice_get, false}
 use Rattle.unix_names.specs.declared.Pid.{Pid}
 use Rattle.unix_names.specs.declared.Life.TheVariants.{Runs}
 use Rattle.unix_calls.specs.declared.Entry.{Entry}
 use Rattle.unix_calls.specs.declared.Start.{Start}
 use Rattle.unix_calls.specs.declared.World.{World}
 use Rattle.signal_state.specs.Sig.{fresh}
-use Rattle.kernel_rules.specs.declared.rows.Row.{Row}
+use Rattle.process_table.specs.declared.Row.{Row}
 use Rattle.kernel_model.specs.declared.verdict.Verdict.TheVariants.{Legal}
-use Rattle.kernel_rules.specs.Rows.{pid}
+use Rattle.process_table.specs.Rows.{pid}
 use Rattle.kernel_model.specs.Step.{verdict, after}
-use Rattle.std.specs.Prelude.{false}
 
 -- the row of the start that a start joins
 abbrev pub joined_row : List Row → Option ℕ → Option Row

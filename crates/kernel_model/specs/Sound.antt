@@ -3,8 +3,8 @@ use Rattle.std.specs.Prelude.{true, false, ◌≡◌, ◌≢◌, ◌≤◌, ◌�
 use Rattle.unix_names.specs.declared.Pid.{Pid}
 use Rattle.unix_names.specs.States.{is_living}
 use Rattle.signal_state.specs.Signals.{IsKept}
-use Rattle.kernel_rules.specs.declared.rows.Row.{Row}
-use Rattle.kernel_rules.specs.Rows.{row_of, is_stopped, child_count, AreDistinct}
+use Rattle.process_table.specs.declared.Row.{Row}
+use Rattle.process_table.specs.Rows.{row_of, is_stopped, child_count, AreDistinct}
 
 -- there is a row, of a living process
 abbrev pub IsAlive : Option Row → Type 0

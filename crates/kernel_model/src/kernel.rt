@@ -2,13 +2,12 @@
 ghost use Rattle.std.specs.Prelude.{◌≡◌, ◌≢◌, [], IfOk, OnOk, OnErr};
 ghost use Rattle.unix_calls.specs.Calls.{HasNames, EntryHasNames};
 ghost use Rattle.kernel_model.specs.Step.{call_verdict, event_verdict, row_verdict, verdict_at, verdict, process_of, row_after, after};
-ghost use Rattle.kernel_rules.specs.Rows.{row_of};
+ghost use Rattle.process_table.specs.Rows.{row_of};
 ghost use Rattle.kernel_model.specs.Legal.{boot, booted, joined_row, first_row, row_with};
 
-use crate::calls::call;
-use crate::events::happen;
 use crate::verdict::{Rule, Verdict};
-use kernel_rules::{ProcessTable, Row, allows, can_call, may_happen};
+use process_table::{ProcessTable, Row};
+use kernel_rules::{allows, call, can_call, happen, look_up, may_happen};
 use signal_state::Sig;
 use std::alloc::Global;
 use std::marker::Model;
@@ -23,7 +22,7 @@ pub struct Kernel {
 
 impl Model for Kernel {
     ghost use Rattle.std.specs.Prelude.{List};
-    ghost use Rattle.kernel_rules.specs.declared.rows.Row.{Row};
+    ghost use Rattle.process_table.specs.declared.Row.{Row};
 
     ghost Value = { List Row };
 
@@ -142,7 +141,7 @@ fn step_table(table: &mut ProcessTable, entry: &Entry) -> Result<Verdict, NoMemo
     ensures legal { result ≡ Ok Verdict.Legal → table.new ≡ after table.old entry.now }
     ensures illegal { result ≢ Ok Verdict.Legal → table.new ≡ table.old }
 {
-    let Some(row) = table.look(process_of(entry)) else {
+    let Some(row) = look_up(table, process_of(entry)) else {
         return Ok(Verdict::Illegal(Rule::UnknownProcess));
     };
     let verdict = living_verdict(table, &row, entry);
@@ -180,7 +179,7 @@ impl Kernel {
         ensures row { result ≡ row_of self.old pid }
         ensures same { self.new ≡ self.old }
     {
-        self.table.look(pid)
+        look_up(&mut self.table, pid)
     }
 
     /// Steps, if the entry is legal: the table is then the one after it. Otherwise the answer names the first rule that fails, and the table stays. It stays too where memory runs out.

@@ -5,8 +5,6 @@
 pub enum Rule {
     /// The process has a row, and has not ended.
     UnknownProcess,
-    /// The call is the next statement of the process's script.
-    ScriptOrder,
     /// A process that calls, or is moved, is not stopped and has nothing deliverable.
     SignalFirst,
     /// The reply is one that the call may get.

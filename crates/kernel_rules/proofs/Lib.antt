@@ -1,5 +1,5 @@
-pub mod AddLaws
-pub mod ChildLaws
-pub mod IndexLaws
-pub mod MarkLaws
-pub mod RisingLaws
+pub mod ActionLaws
+pub mod EndLaws
+pub mod NearLaws
+pub mod ReachLaws
+pub mod SentLaws

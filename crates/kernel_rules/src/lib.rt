@@ -1,19 +1,27 @@
-//! The rules of the one kernel: over a table of processes, what each call may answer, and what may happen to a process.
+//! The rules of the one kernel: over a table of processes, what each call may answer and what it changes, and what may happen to a process.
 #![tactic(auto)]
 
-mod conditions;
-mod index;
-mod marks;
+mod action;
+mod calls;
+mod ending;
+mod events;
+mod exec;
+mod exit;
+mod fork;
+mod kill;
+mod look;
+mod mask;
 mod orphans;
-mod refusals;
+mod permission;
 mod replies;
-mod rows;
-mod table;
+mod setpgid;
+mod setsid;
+mod wait;
 
-pub use conditions::{can_call, has_terminal_stop, is_caught, is_discarded, may_happen, stops};
-pub use index::{Index, is_same_place, place};
-pub use orphans::{has_stopped, is_link, is_orphaned};
-pub use refusals::{MOST_CHILDREN, is_match, is_permitted, refusal, target_pid, wanted_group};
-pub use replies::{allows, has_ready_match, is_fresh, is_ready_match, report_of};
-pub use rows::{Row, find_named, find_row, is_stopped};
-pub use table::ProcessTable;
+pub use calls::{allows, call, refusal};
+pub use events::{can_call, happen, has_terminal_stop, is_caught, is_discarded, look_up, may_happen, stops};
+pub use fork::{MOST_CHILDREN, is_fresh};
+pub use kill::is_permitted;
+pub use orphans::groups_at_risk;
+pub use setpgid::{target_pid, wanted_group};
+pub use wait::{has_ready_match, is_match, is_ready_match, report_of};

@@ -1,56 +1,64 @@
-// Orphaned process groups (POSIX.1-2017, XBD chapter 3, Orphaned Process Group).
-ghost use Rattle.std.specs.Prelude.{◌≡◌};
+// Groups that the end of a process may leave orphaned (POSIX.1-2017, XBD chapter 3, Orphaned Process Group).
+ghost use Rattle.std.specs.Prelude.{◌≡◌, ◌&&◌, ◌||◌, filter, OnOk, IfOk};
 ghost use Rattle.std.specs.List.{list_any};
-ghost use Rattle.kernel_rules.specs.Marks.{AreMarked};
-ghost use Rattle.kernel_rules.specs.Orphans.{is_outside_parent, is_link, is_link_of, is_orphaned, is_stopped_in};
+ghost use Rattle.unix_names.specs.declared.Pid.{Pid};
+ghost use Rattle.process_table.specs.Rows.{is_same, is_among};
+ghost use Rattle.process_table.specs.Orphans.{is_link, is_stopped_in};
+ghost use Rattle.kernel_rules.specs.MethodEnding.{ended_children, is_near, is_at_risk, is_left};
 
-use crate::marks::{SLOTS, is_marked, marks_of};
-use crate::rows::{Row, find_row, is_stopped};
-use unix_names::{Pid, is_living};
+use process_table::{Row, has_stopped, is_among, is_link, is_orphaned};
+use std::alloc::Global;
+use unix_names::{NoMemory, Pid, is_living};
 
-/// Whether a parent is in the member's session, and in another group.
-fn is_outside_parent(member: &Row, parent: Option<Row>) -> bool
-    ensures { result ≡ is_outside_parent member.now parent }
+/// The ended children of a process.
+#[tactic(auto, using(crate::proofs::NearLaws::ended_more))]
+fn ended_children(alloc: Global, rows: &[Row], pid: Pid) -> Result<Vec<Pid>, NoMemory>
+    ensures { IfOk result (λ pids. pids.items ≡ ended_children rows.now pid) }
 {
-    match parent {
-        None => false,
-        Some(parent) => parent.group != member.group && parent.session == member.session,
+    let mut pids = Vec::new(alloc);
+    for row in rows {
+        if row.parent == pid && !is_living(row.life) {
+            pids.push(row.pid)?;
+        }
     }
+    Ok(pids)
 }
 
-/// Whether a process lives and its parent keeps its group from being orphaned.
-pub fn is_link(rows: &[Row], member: &Row) -> bool
-    ensures { result ≡ is_link rows.now member.now }
+/// Whether a row is that of a process, of a child of it, or of a child of one that has ended, and keeps its group from being orphaned.
+fn is_near_link(rows: &[Row], row: &Row, pid: Pid, ended: &[Pid]) -> bool
+    requires { ended.now ≡ ended_children rows.now pid }
+    ensures { result ≡ (is_near rows.now pid row.now && is_link rows.now row.now) }
 {
-    is_living(member.life) && is_outside_parent(member, find_row(rows, member.parent))
+    (row.pid == pid || row.parent == pid || is_among(ended, row.parent)) && is_link(rows, row)
 }
 
-/// Whether a row is that of a member that keeps a group from being orphaned. Its parent is looked up only where it is marked.
-fn is_link_of(rows: &[Row], marks: &[bool; SLOTS], group: Pid, row: &Row) -> bool
-    requires { AreMarked marks.now rows.now group }
-    ensures { result ≡ is_link_of rows.now group row.now }
+/// Adds a group to a list where it has a stopped member and is not listed.
+fn add_stopped(groups: &mut Vec<Pid>, rows: &[Row], group: Pid) -> Result<(), NoMemory>
+    ensures { OnOk result ((g : Pid) → is_among groups.new.items g ≡ (is_among groups.old.items g || (is_same g group && list_any (is_stopped_in g) rows.now))) }
 {
-    row.group == group && is_marked(marks, row.parent, row.session) && is_link(rows, row)
+    if !is_among(groups, group) && has_stopped(rows, group) {
+        groups.push(group)?;
+    }
+    Ok(())
 }
 
-fn has_link(rows: &[Row], group: Pid) -> bool
-    ensures { result ≡ list_any (is_link_of rows.now group) rows.now }
+/// The groups that the end of a process may leave orphaned with a stopped member: those with one that a row near the process keeps from being orphaned.
+pub fn groups_at_risk(alloc: Global, rows: &[Row], pid: Pid) -> Result<Vec<Pid>, NoMemory>
+    ensures { IfOk result (λ groups. (g : Pid) → is_among groups.items g ≡ is_at_risk rows.now pid g) }
 {
-    let marks = marks_of(rows, group);
-    rows.iter().any(|row| is_link_of(rows, &marks, group, row))
+    let ended = ended_children(alloc, rows, pid)?;
+    let mut groups = Vec::new(alloc);
+    for row in rows {
+        if is_near_link(rows, row, pid, &ended) {
+            add_stopped(&mut groups, rows, row.group)?;
+        }
+    }
+    Ok(groups)
 }
 
-/// Whether the parent of each living member of a group is itself a member or is in another session.
-pub fn is_orphaned(rows: &[Row], group: Pid) -> bool
-    ensures { result ≡ is_orphaned rows.now group }
+/// Keeps the groups that are orphaned and have a stopped member.
+pub fn keep_left(groups: &mut Vec<Pid>, rows: &[Row])
+    ensures { groups.new.items ≡ filter (is_left rows.now) groups.old.items }
 {
-    !has_link(rows, group)
-}
-
-/// Whether a group has a stopped member.
-pub fn has_stopped(rows: &[Row], group: Pid) -> bool
-    ensures { result ≡ list_any (is_stopped_in group) rows.now }
-{
-    rows.iter()
-        .any(|row| row.group == group && is_stopped(row.life))
+    groups.retain(|group| has_stopped(rows, *group) && is_orphaned(rows, *group));
 }

@@ -10,10 +10,10 @@ use Rattle.list_laws.proofs.Elements.{any_some, any_found}
 use Rattle.list_laws.proofs.Finding.{found}
 use Rattle.unix_names.specs.declared.Pid.{Pid}
 use Rattle.unix_names.specs.States.{is_living}
-use Rattle.kernel_model.specs.declared.Row.{Row}
-use Rattle.kernel_rules.specs.Rows.{row_of, in_group, AreDistinct}
+use Rattle.process_table.specs.declared.Row.{Row}
+use Rattle.process_table.specs.Rows.{row_of, in_group, AreDistinct}
 use Rattle.kernel_model.specs.Sound.{IsSound, IsAlive}
-use Rattle.kernel_rules.specs.Orphans.{is_outside_parent, is_link, is_link_of, is_orphaned, is_stopped_in}
+use Rattle.process_table.specs.Orphans.{is_outside_parent, is_link, is_link_of, is_orphaned, is_stopped_in}
 use Rattle.orphan_rules.specs.declared.Kin.{Kin}
 use Rattle.orphan_rules.specs.Orphans.{is_living_member, is_link as is_link_told, is_link_of as is_link_of_told, orphaned}
 use Rattle.orphan_rules.proofs.OrphanLaws.{no_link}

@@ -2,8 +2,8 @@
 use Rattle.std.specs.Prelude.{true, ◌≡◌, ◌&&◌, List, Option, None, Some, All, Contains}
 use Rattle.unix_names.specs.declared.Pid.{Pid}
 use Rattle.unix_names.specs.States.{is_living}
-use Rattle.kernel_model.specs.declared.Row.{Row}
-use Rattle.kernel_rules.specs.Rows.{pid, row_of, in_group}
+use Rattle.process_table.specs.declared.Row.{Row}
+use Rattle.process_table.specs.Rows.{pid, row_of, in_group}
 use Rattle.orphan_rules.specs.declared.Kin.{Kin}
 use Rattle.orphan_rules.specs.Orphans.{is_living_member}
 

@@ -2,10 +2,11 @@
 use Rattle.std.specs.Prelude.{◌≡◌, ◌&&◌, List, Some}
 use Rattle.std.specs.List.{list_any}
 use Rattle.unix_names.specs.declared.Pid.{Pid}
-use Rattle.kernel_model.specs.declared.Row.{Row}
-use Rattle.kernel_rules.specs.Rows.{row_of}
+use Rattle.process_table.specs.declared.Row.{Row}
+use Rattle.process_table.specs.Rows.{row_of}
 use Rattle.kernel_model.specs.Sound.{IsSound}
-use Rattle.kernel_rules.specs.Orphans.{is_link, is_orphaned, is_stopped_in, is_newly_orphaned}
+use Rattle.process_table.specs.Orphans.{is_link, is_orphaned, is_stopped_in}
+use Rattle.kernel_rules.specs.Orphans.{is_newly_orphaned}
 use Rattle.orphan_rules.specs.declared.Kin.{Kin}
 use Rattle.orphan_rules.specs.Orphans.{is_link as is_link_told, orphaned, newly_orphaned}
 use Rattle.orphan_laws.specs.Kins.{kin_of, ListsMembers}

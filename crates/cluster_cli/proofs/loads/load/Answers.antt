@@ -2,10 +2,10 @@ use Rattle.std.proofs.Common.{◌≡◌, ◌<◌, ℕ, List, length, sym, subst,
 use Rattle.std.specs.Prelude.{IfOk}
 use Rattle.byte_ends.specs.Text.{lines}
 use Rattle.unix_calls.specs.declared.Turn.{Turn}
-use Rattle.cluster_core.specs.Run.{run}
+use Rattle.solo_core.specs.Run.{run}
 use Rattle.cluster_cli.specs.Load.{load_text}
 use Rattle.script_reader.specs.Files.{read_part}
-use Rattle.cluster_laws.specs.Laws.{CanRun}
+use Rattle.solo_laws.specs.Laws.{CanRun}
 use Rattle.cluster_cli.proofs.LoadLaws.{fits, no_fault, can_load, whole_slice, loads_text}
 use Rattle.cluster_cli.proofs.loads.load.Goals as goal
 

@@ -1,5 +1,5 @@
 use Rattle.std.proofs.Common.{◌∙◌, sym}
-use Rattle.kernel_rules.specs.Replies.{is_ready_match}
+use Rattle.kernel_rules.specs.Wait.{is_ready_match}
 use Rattle.kernel_choice.proofs.ReplyLaws.{none_found}
 use Rattle.kernel_choice.proofs.replies.first_ready.Goals as goal
 

@@ -1,9 +1,0 @@
-use Rattle.std.proofs.Common.{◌≡◌, ◌&&◌, take}
-use Rattle.std.specs.List.{list_any}
-use Rattle.unix_names.specs.declared.Pid.{Pid}
-use Rattle.kernel_rules.specs.Orphans.{is_stopped_in}
-use Rattle.kernel_model.specs.Changes.{is_among, is_near_link}
-use Rattle.kernel_model.proofs.ending.groups_at_risk.Given as goal
-
-abbrev pub invariant-loop-row : goal.invariant-loop-row
-invariant-loop-row l = (g : Pid) → is_among l.groups.items g ≡ (list_any (is_near_link l.rows l.pid g) (take l.row-index l.rows) && list_any (is_stopped_in g) l.rows)
