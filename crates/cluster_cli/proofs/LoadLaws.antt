@@ -13,12 +13,13 @@ use Rattle.load_laws.specs.Worlds.{made_world}
 use Rattle.load_laws.proofs.Files.{made_valid}
 use Rattle.load_laws.proofs.Meant.{made_read}
 use Rattle.load_laws.proofs.Short.{made_short}
-use Rattle.cluster_core.specs.Run.{run, total_turns}
+use Rattle.cluster_core.specs.Run.{run}
+use Rattle.unix_calls.specs.Turns.{turns_total}
 use Rattle.cluster_laws.specs.Laws.{CanRun}
 use Rattle.cluster_cli.specs.Commands.{IsWithin}
 use Rattle.cluster_cli.specs.Load.{load_turns, load_text, Loads}
 
-few : total_turns load_turns ≤ 200000
+few : turns_total load_turns ≤ 200000
 unfolding load_turns
 few = omega arith
 

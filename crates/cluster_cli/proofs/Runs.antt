@@ -1,8 +1,7 @@
 -- What is so of an input that is run.
 use Rattle.std.proofs.Common.{◌≡◌, ◌≤◌, ℕ, ◌+◌, Bool, true, false, List, [], ◌∷◌, ◌++◌, length, refl, sym, ap, subst, ◌∙◌, arith, Option, Some, None, Result, Ok, Err, All}
 use Rattle.std.specs.Prelude.{codes, fold, map, not, take_while, ◌&&◌, nat_lt, nat_le, if◌then◌else◌, ◌^◌}
-use Rattle.std.specs.List.{slice_split, slice_index_or}
-use Rattle.std.specs.List.{prefix_len}
+use Rattle.std.specs.List.{slice_split, slice_index_or, prefix_len}
 use Rattle.std.proofs.lemmas.List.{length-map, length-take}
 use Rattle.std.proofs.lemmas.List.Splits.{length-slice_split}
 use Rattle.std.proofs.lemmas.List.Sums.{count_by-le-length}
@@ -11,27 +10,23 @@ use Rattle.std.specs.Str.Parse.{digits_value}
 use Rattle.std.proofs.lemmas.Bool.{le-leb, leb-true, ltb-false}
 use Rattle.byte_ends.specs.Text.{lines, words, whole_lines, is_newline, strip_return, IsNumber}
 use Rattle.unix_calls.specs.declared.Turn.{Turn}
-use Rattle.unix_calls.specs.declared.Turn.TheVariants.{Go, Push, Take, Auto}
 use Rattle.unix_calls.specs.declared.World.{World}
 use Rattle.unix_calls.specs.Valid.{IsValid}
 use Rattle.script_words.specs.declared.faults.Fault.{Fault}
 use Rattle.script_words.specs.declared.faults.Kind.{Kind}
 use Rattle.script_words.specs.Words.{Row, ◌>>=◌, is_same, is_number, is_skipped}
-use Rattle.script_words.specs.declared.faults.Kind.TheVariants.{NotUtf8, TooManyTurns}
-use Rattle.script_words.specs.declared.faults.Kind.TheVariants.{UnknownWord}
+use Rattle.script_words.specs.declared.faults.Kind.TheVariants.{NotUtf8, TooManyTurns, UnknownWord}
 use Rattle.script_reader.specs.Files.{fault_at, read_part}
 use Rattle.file_parts.specs.Parts.{is_only, world_lines, front_lines, schedule_lines, history_lines}
 use Rattle.unix_calls.specs.declared.Entry.{Entry}
-use Rattle.unix_calls.specs.declared.Entry.TheVariants.{Called, Happened}
-use Rattle.unix_calls.specs.declared.Call.TheVariants as calls
-use Rattle.run_text.specs.History.{IsEntry}
-use Rattle.cluster_laws.specs.Stands.{IsWhole}
+use Rattle.unix_calls.specs.Calls.{IsEntry}
 use Rattle.script_words.proofs.Numbers.{is_number-decides}
 use Rattle.script_laws.specs.Grammar.{Naming, Part, silent, opens}
 use Rattle.script_laws.proofs.Words.{words_same}
 use Rattle.script_laws.proofs.Exact.{read_is_file}
-use Rattle.run_text.specs.Schedule.{SoFar, turns_in, added, after_line, turns_of, turn_of, read_turn, counted, schedule}
-use Rattle.cluster_core.specs.Run.{run, turn_count, total_turns}
+use Rattle.run_text.specs.Schedule.{SoFar, added, after_line, turns_of, turn_of, read_turn, counted, schedule}
+use Rattle.unix_calls.specs.Turns.{turns_in, turns_total}
+use Rattle.cluster_core.specs.Run.{run}
 use Rattle.cluster_laws.proofs.Runs.{run_legal, run_follows, run_whole}
 use Rattle.cluster_laws.proofs.Finishing.{quiet_finished}
 use Rattle.cluster_cli.specs.Replay.{run_text, Runs}
@@ -76,18 +71,12 @@ one_node naming world number rows' (opens word {rows = rows} n d) e valid =
 -- ---- few turns
 -- turns that are counted: as many as they stand for, and not too many
 record IsCounted (s : SoFar) : Type 0 where
-  count : total_turns s.turns ≡ s.count
+  count : turns_total s.turns ≡ s.count
   few : s.count ≤ 200000
 
-total_more : (turns : List Turn) (turn : Turn) → total_turns (turns ++ turn ∷ []) ≡ total_turns turns + turn_count turn
+total_more : (turns : List Turn) (turn : Turn) → turns_total (turns ++ turn ∷ []) ≡ turns_total turns + turns_in turn
 total_more [] turn = omega arith
 total_more (t ∷ turns) turn = let more = total_more turns turn in omega (arith, more)
-
-same_count : (turn : Turn) → turns_in turn ≡ turn_count turn
-same_count (Go n) = refl
-same_count (Push n k) = refl
-same_count (Take n m) = refl
-same_count (Auto k) = refl
 
 ok_same : {A E : Type 0} (r : Result A E) (x y : A) → r ≡ Ok x → r ≡ Ok y → x ≡ y
 ok_same r x y e e' = cc
@@ -136,7 +125,7 @@ step_on nodes ls s s' rest c (Err kind) few e =
 step_on nodes ls s s' rest c (Ok None) few e = rest (record { turns = s.turns; count = s.count; number = s.number + 1 }) (record { count = c.count; few = c.few }) e
 step_on nodes ls s s' rest c (Ok (Some turn)) few e =
     rest (record { turns = s.turns ++ turn ∷ []; count = s.count + turns_in turn; number = s.number + 1 })
-    (record { count = total_more s.turns turn ∙ ap (λ n. n + turn_count turn) c.count ∙ ap (λ n. s.count + n) (sym (same_count turn)); few = few turn refl }) e
+    (record { count = total_more s.turns turn ∙ ap (λ n. n + turns_in turn) c.count; few = few turn refl }) e
 
 counted_on : (nodes : ℕ) (ls : List (List ℕ)) (s s' : SoFar) → IsCounted s → fold (after_line nodes) (Ok s) ls ≡ Ok s' → IsCounted s'
 counted_on nodes [] s s' c e = subst IsCounted (ok_same _ s s' refl e) c
@@ -148,16 +137,16 @@ turns_of_ok (Ok s) turns e = (s, refl, ok_same _ s.turns turns refl e)
 turns_of_ok (Err fault) turns e = absurd (err_ok fault turns e)
 
 -- a schedule that is read stands for at most 200,000 turns
-few_turns : (nodes number : ℕ) (ls : List (List ℕ)) (turns : List Turn) → schedule nodes number ls ≡ Ok turns → total_turns turns ≤ 200000
+few_turns : (nodes number : ℕ) (ls : List (List ℕ)) (turns : List Turn) → schedule nodes number ls ≡ Ok turns → turns_total turns ≤ 200000
 unfolding schedule
 few_turns nodes number ls turns e =
     let first : SoFar = record { turns = []; count = 0; number = number } in
     let last = turns_of_ok (fold (after_line nodes) (Ok first) ls) turns e in
     let c = counted_on nodes ls first last.0 (record { count = refl; few = omega arith }) last.1 in
-    subst (λ ts. total_turns ts ≤ 200000) last.2 (subst (λ n. n ≤ 200000) (sym c.count) c.few)
+    subst (λ ts. turns_total ts ≤ 200000) last.2 (subst (λ n. n ≤ 200000) (sym c.count) c.few)
 
-few_given : (nodes number : ℕ) (ls : Option (List (List ℕ))) (turns : List Turn) → turns_given nodes number ls ≡ Ok turns → total_turns turns ≤ 200000
-few_given nodes number None turns e = subst (λ ts. total_turns ts ≤ 200000) (ok_same _ (Auto 200000 ∷ []) turns refl e) (omega arith)
+few_given : (nodes number : ℕ) (ls : Option (List (List ℕ))) (turns : List Turn) → turns_given nodes number ls ≡ Ok turns → turns_total turns ≤ 200000
+few_given nodes number None turns e = subst (λ ts. turns_total ts ≤ 200000) (ok_same _ (Auto 200000 ∷ []) turns refl e) (omega arith)
 few_given nodes number (Some ls) turns e = few_turns nodes number ls turns e
 
 -- ---- an input that is run
@@ -165,7 +154,7 @@ with_turns_ok : (world : World) (r : Result (List Turn) Fault) (g : Given) → w
 with_turns_ok world (Ok turns) g e = (ap (λ (x : Given). x.world) (sym (ok_same _ _ g refl e)), ap (λ (x : Given). Ok x.turns) (ok_same _ _ g refl e))
 with_turns_ok world (Err fault) g e = absurd (err_ok fault g e)
 
-given_ok : (ls : List (List ℕ)) (r : Result World Fault) (g : Given) → with_schedule ls r ≡ Ok g → (r ≡ Ok g.world) × (total_turns g.turns ≤ 200000)
+given_ok : (ls : List (List ℕ)) (r : Result World Fault) (g : Given) → with_schedule ls r ≡ Ok g → (r ≡ Ok g.world) × (turns_total g.turns ≤ 200000)
 given_ok ls (Ok world) g e =
     let t = with_turns_ok world (turns_given world.nodes (2 + length (world_lines ls)) (schedule_lines ls)) g e in
     (ap (λ (w : World). Ok w) (sym t.0), few_given world.nodes (2 + length (world_lines ls)) (schedule_lines ls) g.turns t.1)
@@ -197,18 +186,9 @@ can_run input g e =
       few_turns = r.1;
     }
 
--- an entry of a run is one that is written
-pub is_entry : (entry : Entry) → IsWhole entry → IsEntry entry
-is_entry (Called caller (calls.Exit n) reply) h = h
-is_entry (Called caller call reply) h = h
-is_entry (Happened pid event) h = h
-
-all_entries : (es : List Entry) → All IsWhole es → All IsEntry es
-all_entries es h = λ k d lt. is_entry (slice_index_or es k d) (h k d lt)
-
 -- the entries of a run are ones that are written
 pub run_entries : (world : World) (turns : List Turn) → CanRun world turns → All IsEntry (run world turns).history
-run_entries world turns can = all_entries (run world turns).history (run_whole world turns can)
+run_entries world turns can = run_whole world turns can
 
 -- ---- a word that asks for more than one node
 pub many_is : (word : List ℕ) (n : ℕ) → IsNumber word → n ≡ digits_value 10 word → is_many n ≡ (is_number word && is_many (digits_value 10 word))

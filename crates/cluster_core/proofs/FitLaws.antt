@@ -29,7 +29,8 @@ use Rattle.cluster_core.specs.declared.machine.Machine.{Machine}
 use Rattle.cluster_core.specs.Machine.{woken_image, roused, nudged, told, chosen, in_phase, advanced, image_after, placed, placed_image, with_image, child_pid, born, born_as, decided, serial_after, committed}
 use Rattle.cluster_core.specs.Ready.{first_movable}
 use Rattle.cluster_core.specs.Commit.{AllFit}
-use Rattle.cluster_core.specs.Run.{Played, first_machine, played_by, played, gone_from, gone, is_stopped_phase, pushed_from, pushed, gone_times, turned, turn_count}
+use Rattle.cluster_core.specs.Run.{Played, first_machine, played_by, played, gone_from, gone, is_stopped_phase, pushed_from, pushed, gone_times, turned}
+use Rattle.unix_calls.specs.Turns.{turns_in}
 
 -- ---- tables
 all_with_by : {T : Type 0} (P : T → Type 0) (e : Valued T) (es : List (Valued T)) (p : Pid) (v : T) (b c : Bool) → P v → All (λ x. P x.value) (e ∷ es) → All (λ x. P x.value) (with_value es p v) →
@@ -206,7 +207,7 @@ kept_if : (world : World) (b : Bool) (p q : Played) → AllFit world p.machine �
 kept_if world true p q fits kept = kept
 kept_if world false p q fits kept = kept_still world 1 p fits
 
-pub turned-kept : (world : World) (p : Played) (turn : Turn) → IsValid world → AllFit world p.machine → IsKept world (turn_count turn) p (turned world p turn)
+pub turned-kept : (world : World) (p : Played) (turn : Turn) → IsValid world → AllFit world p.machine → IsKept world (turns_in turn) p (turned world p turn)
 turned-kept world p (Go n) valid fits = kept_if world _ p (gone world p) fits (gone-kept world p valid fits)
 turned-kept world p (Push n k) valid fits = kept_if world _ p (pushed world p) fits (pushed_from-kept world [] p.machine.ready p valid (All-nil (IsFit world)) fits.ready fits)
 turned-kept world p (Take n k) valid fits = kept_still world 1 p fits

@@ -8,7 +8,8 @@ use Rattle.unix_calls.specs.declared.Turn.{Turn}
 use Rattle.unix_calls.specs.declared.World.{World}
 use Rattle.proc_image.specs.declared.image.Image.{Image}
 use Rattle.cluster_core.specs.Ready.{first_movable, without_movable}
-use Rattle.cluster_core.specs.Run.{Played, played, gone_from, gone, is_stopped_phase, pushed_from, pushed, gone_times, turned, first_machine, run, turn_count, total_turns}
+use Rattle.cluster_core.specs.Run.{Played, played, gone_from, gone, is_stopped_phase, pushed_from, pushed, gone_times, turned, first_machine, run}
+use Rattle.unix_calls.specs.Turns.{turns_in, turns_total}
 
 -- the image that was found is moved, and the others stay
 abbrev pub pushed_found : World → Option Image → List Image → Played → Played
@@ -50,10 +51,10 @@ map_item {X} {Y} f xs k y made = by (slice_get xs k) refl made
         map_more f xs k x (slice_get_within xs k x e) ∙ ap (λ z. map f (take k xs) ++ z ∷ []) (ap f here ∙ sym same)
 
 -- the turns that are left, with the next one
-pub total_turns-drop : (turns : List Turn) (i : ℕ) (d : Turn) → i < length turns → total_turns (drop i turns) ≡ turn_count (get_or turns i d) + total_turns (drop (suc i) turns)
-total_turns-drop [] i d within = absurd (omega arith)
-total_turns-drop (turn ∷ turns) zero d within = refl
-total_turns-drop (turn ∷ turns) (suc i) d within = total_turns-drop turns i d (omega arith)
+pub turns_total-drop : (turns : List Turn) (i : ℕ) (d : Turn) → i < length turns → turns_total (drop i turns) ≡ turns_in (get_or turns i d) + turns_total (drop (suc i) turns)
+turns_total-drop [] i d within = absurd (omega arith)
+turns_total-drop (turn ∷ turns) zero d within = refl
+turns_total-drop (turn ∷ turns) (suc i) d within = turns_total-drop turns i d (omega arith)
 
 -- a turn more of so many
 pub gone_times_more : (world : World) (n m : ℕ) (p q r : Played) → m ≡ suc n → q ≡ gone world p → gone_times world m p ≡ r → gone_times world n q ≡ r

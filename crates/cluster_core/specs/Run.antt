@@ -84,12 +84,3 @@ run world turns = fold (turned world) (record { machine = first_machine world; h
 -- nothing is left to do
 abbrev pub IsQuiet : Played → Type 0
 IsQuiet p = p.machine.ready ≡ []
-
--- how many turns a schedule stands for
-abbrev pub turn_count : Turn → ℕ
-turn_count (Auto n) = n
-turn_count turn = 1
-
-abbrev pub total_turns : List Turn → ℕ
-total_turns [] = 0
-total_turns (turn ∷ turns) = turn_count turn + total_turns turns

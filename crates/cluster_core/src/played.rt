@@ -3,7 +3,8 @@ ghost use Rattle.std.specs.Prelude.{◌≡◌, ◌+◌, ◌<◌, ◌^◌, [], ma
 ghost use Rattle.unix_calls.specs.Valid.{IsValid};
 ghost use Rattle.proc_image.specs.Images.{IsFit, JobHasNames, start_image};
 ghost use Rattle.cluster_core.specs.Commit.{AllFit};
-ghost use Rattle.cluster_core.specs.Run.{first_machine, played, gone, pushed, gone_times, turned, turn_count};
+ghost use Rattle.cluster_core.specs.Run.{first_machine, played, gone, pushed, gone_times, turned};
+ghost use Rattle.unix_calls.specs.Turns.{turns_in};
 
 use crate::choice::{chosen, record};
 use crate::groups::first_groups;
@@ -138,7 +139,7 @@ impl Played {
     pub fn turn(&mut self, alloc: Global, world: &World, turn: Turn) -> Result<(), NoMemory>
         requires valid { IsValid world.now }
         requires fits { AllFit world.now self.old.machine }
-        requires room { self.old.machine.serial + turn_count turn < 2 ^ 32 }
+        requires room { self.old.machine.serial + turns_in turn < 2 ^ 32 }
         ensures { OnOk result (self.new ≡ turned world.now self.old turn) }
     {
         match turn {

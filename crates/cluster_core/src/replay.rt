@@ -1,7 +1,8 @@
 // The run of a schedule on one node.
 ghost use Rattle.std.specs.Prelude.{◌≡◌, ◌≤◌, ◌↔◌, IfOk, IsTrue};
 ghost use Rattle.unix_calls.specs.Valid.{IsValid};
-ghost use Rattle.cluster_core.specs.Run.{run, IsQuiet, total_turns};
+ghost use Rattle.cluster_core.specs.Run.{run, IsQuiet};
+ghost use Rattle.unix_calls.specs.Turns.{turns_total};
 
 use crate::outcome::Run;
 use crate::played::Played;
@@ -13,7 +14,7 @@ use unix_names::NoMemory;
 pub fn run(alloc: Global, world: &World, schedule: &[Turn]) -> Result<Run, NoMemory>
     requires valid { IsValid world.now }
     requires one_node { world.now.nodes ≡ 1 }
-    requires few { total_turns schedule.now ≤ 200000 }
+    requires few { turns_total schedule.now ≤ 200000 }
     ensures entries { IfOk result (λ r. r.entries ≡ (run world.now schedule.now).history) }
     ensures quiet { IfOk result (λ r. IsTrue r.is_quiet ↔ IsQuiet (run world.now schedule.now)) }
 {

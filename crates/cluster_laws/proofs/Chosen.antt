@@ -18,7 +18,7 @@ use Rattle.unix_calls.specs.declared.Job.TheVariants.{Ask, Look, Push}
 use Rattle.unix_calls.specs.declared.Phase.{Phase}
 use Rattle.unix_calls.specs.declared.Phase.TheVariants as phases
 use Rattle.unix_calls.specs.declared.World.{World}
-use Rattle.unix_calls.specs.Calls.{HasNames}
+use Rattle.unix_calls.specs.Calls.{HasNames, HasReply, IsEntry}
 use Rattle.signal_state.specs.Sig.{deliverable}
 use Rattle.list_laws.proofs.Elements.{any_none_found}
 use Rattle.proc_image.specs.declared.image.Image.{Image}
@@ -43,7 +43,7 @@ use Rattle.kernel_choice.proofs.EventLaws.{chosen_may_happen, none_where_clear}
 use Rattle.kernel_choice.proofs.ReplyLaws.{chosen_allowed, exit_alone}
 use Rattle.cluster_core.specs.Machine.{asked, happened_or, chosen}
 use Rattle.cluster_core.specs.Run.{is_stopped_phase}
-use Rattle.cluster_laws.specs.Stands.{HasOwnReply, IsWhole, AreGiven}
+use Rattle.cluster_laws.specs.Stands.{AreGiven}
 
 -- ---- jobs
 -- a job that a process can have where it stands
@@ -171,7 +171,7 @@ module _ (world : World) (image : Image) (rows : List Row) (r : Row) (serial : �
   not_exit : (call : Call) → reply_of rows r call serial ≡ NoReply → is_exit call ≡ false → ⊥
   not_exit call h no_exit = cc ((exit_alone rows r call serial).0 h, no_exit)
 
-  own_reply : (caller : Pid) (call : Call) (reply : Reply) → reply ≡ reply_of rows r call serial → HasOwnReply (Called caller call reply)
+  own_reply : (caller : Pid) (call : Call) (reply : Reply) → reply ≡ reply_of rows r call serial → HasReply (Called caller call reply)
   own_reply caller (Exit n) reply e = e ∙ (exit_alone rows r (Exit n) serial).1 refl
   own_reply caller Getpid reply e = λ h. not_exit Getpid (sym e ∙ h) refl
   own_reply caller Getppid reply e = λ h. not_exit Getppid (sym e ∙ h) refl
@@ -200,6 +200,6 @@ module _ (world : World) (image : Image) (rows : List Row) (r : Row) (serial : �
   chosen_number (Happened p event) chosen n is = absurd is
 
   -- it can stand in a history
-  pub chosen_whole : (entry : Entry) → HasNames (next_call world image.pid (progress_of image)) → IsChosen world image rows r serial entry → IsWhole entry
+  pub chosen_whole : (entry : Entry) → HasNames (next_call world image.pid (progress_of image)) → IsChosen world image rows r serial entry → IsEntry entry
   chosen_whole (Called caller call reply) names chosen = (own_reply caller call reply chosen.asks.1, subst HasNames (sym chosen.asks.0) names)
   chosen_whole (Happened p event) names chosen = (tt, tt)

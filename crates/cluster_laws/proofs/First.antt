@@ -26,7 +26,8 @@ use Rattle.kernel_laws.proofs.Rows.{number, row_pid, row_here}
 use Rattle.kernel_laws.proofs.Starts.{start_number, valid_pids}
 use Rattle.kernel_laws.proofs.Boot.{boot_first, boot_sound}
 use Rattle.cluster_core.specs.Run.{first_machine}
-use Rattle.cluster_laws.specs.Stands.{IsWhole, IsOver, image_number, IsImageOf, IsPlaced, HaveImages, AreGiven, progress_after}
+use Rattle.unix_calls.specs.Calls.{IsEntry}
+use Rattle.cluster_laws.specs.Stands.{IsOver, image_number, IsImageOf, IsPlaced, HaveImages, AreGiven, progress_after}
 use Rattle.cluster_laws.proofs.Middles.{at-append_other, at-append_same}
 use Rattle.cluster_laws.proofs.Places.{same_pid, placed_as}
 use Rattle.cluster_laws.proofs.Played.{StandsBy}
@@ -160,7 +161,7 @@ module _ (world : World) (valid : IsValid world) (one : world.nodes ≡ 1) where
       sound = boot_sound world valid;
       legal = tt;
       follows = tt;
-      whole = All-nil IsWhole;
+      whole = All-nil IsEntry;
       images = first_images;
       given = first_given;
       least = omega arith;

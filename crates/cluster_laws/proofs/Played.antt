@@ -6,7 +6,7 @@ use Rattle.unix_names.specs.declared.Pid.{Pid}
 use Rattle.unix_calls.specs.declared.Entry.{Entry}
 use Rattle.unix_calls.specs.declared.Job.{Job}
 use Rattle.unix_calls.specs.declared.World.{World}
-use Rattle.unix_calls.specs.Calls.{HasNames}
+use Rattle.unix_calls.specs.Calls.{HasNames, IsEntry}
 use Rattle.unix_calls.specs.Valid.{IsValid}
 use Rattle.ordered_table.specs.Entries.{value_at}
 use Rattle.proc_image.specs.declared.image.Image.{Image}
@@ -26,7 +26,7 @@ use Rattle.cluster_core.specs.declared.machine.Machine.{Machine}
 use Rattle.cluster_core.specs.declared.played.Played.{Played}
 use Rattle.cluster_core.specs.Machine.{child_pid, serial_after, chosen, committed}
 use Rattle.cluster_core.specs.Run.{with_entry, played_by, played}
-use Rattle.cluster_laws.specs.Stands.{IsWhole, queued_at, IsImageOf, IsPlaced, HaveImages, AreGiven, progress_after, Stands}
+use Rattle.cluster_laws.specs.Stands.{queued_at, IsImageOf, IsPlaced, HaveImages, AreGiven, progress_after, Stands}
 use Rattle.cluster_laws.proofs.Given.{given_kept}
 use Rattle.cluster_laws.proofs.Places.{HaveBut, AlsoOut, NoneOut, queued_one, take_queued}
 use Rattle.cluster_laws.proofs.Names.{next_names}
@@ -124,7 +124,7 @@ module _ (world : World) (valid : IsValid world) (p : Played) (stands : Stands w
         legal = legal-push (boot world) p.history entry stands.legal (subst (λ t. verdict t entry ≡ Legal) stands.table is.legal);
         follows = FollowsFrom-push world (first_running world) p.history entry stands.follows
             (chosen_order world image rows taken_of.process serial running entry (sym taken_pid) (ap (λ (q : Pid). running q.0) taken_pid ∙ taken_of.progress) is);
-        whole = All-push IsWhole p.history entry stands.whole (chosen_whole world image rows taken_of.process serial entry taken_names is);
+        whole = All-push IsEntry p.history entry stands.whole (chosen_whole world image rows taken_of.process serial entry taken_names is);
         images = to_images world now (after rows entry) (serial_after serial entry) kept;
         given = subst (λ k. AreGiven now.machine.serial k) (sym kept.kernel) (subst (λ n. AreGiven n (after rows entry)) (sym kept.next)
             (given_kept serial rows entry stands.sound is.legal stands.given (chosen_number world image rows taken_of.process serial entry is)));

@@ -3,17 +3,18 @@ use Rattle.std.proofs.Common.{◌+◌, List, [], arith}
 use Rattle.unix_calls.specs.declared.Turn.{Turn}
 use Rattle.unix_calls.specs.declared.World.{World}
 use Rattle.cluster_core.specs.declared.played.Played.{Played}
-use Rattle.cluster_core.specs.Run.{first_machine, run, total_turns}
+use Rattle.cluster_core.specs.Run.{first_machine, run}
+use Rattle.unix_calls.specs.Turns.{turns_total}
 use Rattle.cluster_laws.specs.Laws.{CanRun, RunsAreLegal, RunsFollow, RunsAreWhole, TablesAreAfterAll, RunsStand}
 use Rattle.cluster_laws.proofs.Turns.{StandsAlso, IsKeptByTurns, more_also, turns_stand}
 use Rattle.cluster_laws.proofs.First.{first_stands}
 
 -- what holds before the first turn, and after each commitment of a node that stands, holds after each run
-pub run_keeps : (world : World) (turns : List Turn) (Q : Played → Type 0) → CanRun world turns → Q (record { machine = first_machine world; history = [] }) → IsKeptByTurns world Q → StandsAlso world Q (total_turns turns) (run world turns)
+pub run_keeps : (world : World) (turns : List Turn) (Q : Played → Type 0) → CanRun world turns → Q (record { machine = first_machine world; history = [] }) → IsKeptByTurns world Q → StandsAlso world Q (turns_total turns) (run world turns)
 run_keeps world turns Q can first kept =
     let le = can.few_turns in
     let start : Played = record { machine = first_machine world; history = [] } in
-    more_also world Q (0 + total_turns turns) (total_turns turns) (run world turns) (omega arith)
+    more_also world Q (0 + turns_total turns) (turns_total turns) (run world turns) (omega arith)
     (turns_stand world can.valid Q kept turns 0 start (omega (arith, le)) (record { by = first_stands world can.valid can.one_node; also = first }))
 
 pub run_stands : RunsStand

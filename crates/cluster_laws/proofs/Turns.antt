@@ -14,7 +14,8 @@ use Rattle.kernel_rules.specs.declared.rows.Row.{Row}
 use Rattle.kernel_rules.specs.Rows.{row_of}
 use Rattle.cluster_core.specs.declared.played.Played.{Played}
 use Rattle.cluster_core.specs.Machine.{chosen, committed}
-use Rattle.cluster_core.specs.Run.{with_entry, played_by, played, gone_from, gone, is_stopped_phase, pushed_from, pushed, gone_times, turned, turn_count, total_turns}
+use Rattle.cluster_core.specs.Run.{with_entry, played_by, played, gone_from, gone, is_stopped_phase, pushed_from, pushed, gone_times, turned}
+use Rattle.unix_calls.specs.Turns.{turns_in, turns_total}
 use Rattle.cluster_laws.specs.Stands.{Stands}
 use Rattle.cluster_laws.proofs.Chosen.{IsJobOf, wants_next}
 use Rattle.cluster_laws.proofs.Played.{StandsBy, more_entries, taken_of, played_stands}
@@ -88,7 +89,7 @@ module _ (world : World) (valid : IsValid world) (Q : Played → Type 0) (kept :
   chosen_turn count next true p q other same = other
   chosen_turn count next false p q other same = same
 
-  turn_stands : (count : ℕ) (p : Played) (turn : Turn) → count + turn_count turn ≤ 200000 → StandsAlso world Q count p → StandsAlso world Q (count + turn_count turn) (turned world p turn)
+  turn_stands : (count : ℕ) (p : Played) (turn : Turn) → count + turns_in turn ≤ 200000 → StandsAlso world Q count p → StandsAlso world Q (count + turns_in turn) (turned world p turn)
   turn_stands count p (Go n) le by =
       chosen_turn count (count + 1) (n == 0) p (gone world p)
       (more_also world Q (suc count) (count + 1) (gone world p) (omega arith) (gone_stands count p (omega (arith, le)) by))
@@ -101,9 +102,9 @@ module _ (world : World) (valid : IsValid world) (Q : Played → Type 0) (kept :
   turn_stands count p (Auto n) le by = times_stand n count p le by
 
   -- ---- a schedule
-  pub turns_stand : (turns : List Turn) (count : ℕ) (p : Played) → count + total_turns turns ≤ 200000 → StandsAlso world Q count p → StandsAlso world Q (count + total_turns turns) (fold (turned world) p turns)
-  turns_stand [] count p le by = more_also world Q count (count + total_turns []) p (omega arith) by
+  pub turns_stand : (turns : List Turn) (count : ℕ) (p : Played) → count + turns_total turns ≤ 200000 → StandsAlso world Q count p → StandsAlso world Q (count + turns_total turns) (fold (turned world) p turns)
+  turns_stand [] count p le by = more_also world Q count (count + turns_total []) p (omega arith) by
   turns_stand (turn ∷ turns) count p le by =
-      let total : total_turns (turn ∷ turns) ≡ turn_count turn + total_turns turns = refl in
-      more_also world Q (count + turn_count turn + total_turns turns) (count + total_turns (turn ∷ turns)) (fold (turned world) (turned world p turn) turns) (omega (arith, total))
-      (turns_stand turns (count + turn_count turn) (turned world p turn) (omega (arith, le, total)) (turn_stands count p turn (omega (arith, le, total)) by))
+      let total : turns_total (turn ∷ turns) ≡ turns_in turn + turns_total turns = refl in
+      more_also world Q (count + turns_in turn + turns_total turns) (count + turns_total (turn ∷ turns)) (fold (turned world) (turned world p turn) turns) (omega (arith, total))
+      (turns_stand turns (count + turns_in turn) (turned world p turn) (omega (arith, le, total)) (turn_stands count p turn (omega (arith, le, total)) by))

@@ -5,16 +5,18 @@ use Rattle.unix_calls.specs.declared.World.{World}
 use Rattle.unix_calls.specs.Valid.{IsValid}
 use Rattle.proc_image.specs.Follows.{Follows}
 use Rattle.kernel_model.specs.Legal.{after_all, IsLegal}
-use Rattle.cluster_core.specs.Run.{run, IsQuiet, total_turns}
+use Rattle.cluster_core.specs.Run.{run, IsQuiet}
+use Rattle.unix_calls.specs.Turns.{turns_total}
 use Rattle.audit_core.specs.Finished.{IsFinished}
-use Rattle.cluster_laws.specs.Stands.{IsWhole, Stands}
+use Rattle.unix_calls.specs.Calls.{IsEntry}
+use Rattle.cluster_laws.specs.Stands.{Stands}
 use Rattle.cluster_laws.specs.Rests.{Rests}
 
 -- a valid world of one node, and a schedule of at most 200,000 turns
 pub record CanRun (world : World) (turns : List Turn) : Type 0 where
   pub valid : IsValid world
   pub one_node : world.nodes ≡ 1
-  pub few_turns : total_turns turns ≤ 200000
+  pub few_turns : turns_total turns ≤ 200000
 
 -- no entry breaks a rule of the one kernel
 abbrev pub RunsAreLegal : Type 0
@@ -26,7 +28,7 @@ RunsFollow = (world : World) (turns : List Turn) → CanRun world turns → Foll
 
 -- an exit alone has no reply, and each call's numbers can be names
 abbrev pub RunsAreWhole : Type 0
-RunsAreWhole = (world : World) (turns : List Turn) → CanRun world turns → All IsWhole (run world turns).history
+RunsAreWhole = (world : World) (turns : List Turn) → CanRun world turns → All IsEntry (run world turns).history
 
 -- the node's table is the one kernel's after the history
 abbrev pub TablesAreAfterAll : Type 0

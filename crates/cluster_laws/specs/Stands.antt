@@ -3,14 +3,11 @@ use Rattle.std.specs.Prelude.{ℕ, ◌≡◌, ◌<◌, ◌≤◌, ◌+◌, true,
 use Rattle.unix_names.specs.declared.Pid.{Pid}
 use Rattle.unix_names.specs.Sets.{IsSignals}
 use Rattle.unix_names.specs.States.{is_living}
-use Rattle.unix_calls.specs.declared.Call.TheVariants.{Exit}
-use Rattle.unix_calls.specs.declared.Reply.TheVariants.{NoReply}
 use Rattle.unix_calls.specs.declared.Entry.{Entry}
-use Rattle.unix_calls.specs.declared.Entry.TheVariants.{Called, Happened}
 use Rattle.unix_calls.specs.declared.Phase.{Phase}
 use Rattle.unix_calls.specs.declared.Phase.TheVariants as phases
 use Rattle.unix_calls.specs.declared.World.{World}
-use Rattle.unix_calls.specs.Calls.{EntryHasNames}
+use Rattle.unix_calls.specs.Calls.{IsEntry}
 use Rattle.ordered_table.specs.Entries.{IsRising, value_at}
 use Rattle.list_laws.specs.Keyed.{at, Distinct}
 use Rattle.proc_image.specs.declared.image.Image.{Image}
@@ -24,17 +21,6 @@ use Rattle.kernel_model.specs.Sound.{IsSound}
 use Rattle.cluster_core.specs.declared.machine.Machine.{Machine}
 use Rattle.cluster_core.specs.declared.played.Played.{Played}
 use Rattle.cluster_core.specs.Run.{is_stopped_phase}
-
--- ---- entries
--- an exit alone has no reply
-abbrev pub HasOwnReply : Entry → Type 0
-HasOwnReply (Called caller (Exit n) reply) = reply ≡ NoReply
-HasOwnReply (Called caller call reply) = ¬ (reply ≡ NoReply)
-HasOwnReply (Happened pid event) = Unit {0}
-
--- an entry that a history can hold
-abbrev pub IsWhole : Entry → Type 0
-IsWhole entry = HasOwnReply entry × EntryHasNames entry
 
 -- ---- images
 -- the key of an image
@@ -113,7 +99,7 @@ pub record Stands (world : World) (p : Played) : Type 0 where
   pub sound : IsSound p.machine.kernel
   pub legal : IsLegal world p.history
   pub follows : Follows world p.history
-  pub whole : All IsWhole p.history
+  pub whole : All IsEntry p.history
   pub images : HaveImages world (progress_after world p.history) p.machine
   -- a fork's pid is greater than each number in the table, and each fork is an entry
   pub given : AreGiven p.machine.serial p.machine.kernel

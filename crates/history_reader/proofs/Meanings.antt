@@ -8,7 +8,8 @@ use Rattle.unix_calls.specs.declared.Entry.{Entry}
 use Rattle.unix_calls.specs.declared.Entry.TheVariants.{Called, Happened}
 use Rattle.text_laws.specs.Plain.{is_plain, are_plain}
 use Rattle.text_laws.proofs.Words.{words-spaced}
-use Rattle.run_text.specs.History.{spaced, line_of, call_words, reply_words, event_words, HasReply}
+use Rattle.run_text.specs.History.{spaced, line_of, call_words, reply_words, event_words}
+use Rattle.unix_calls.specs.Calls.{HasReply}
 use Rattle.history_reader.specs.Loose.{entry_in}
 use Rattle.history_reader.specs.Reading.{entry_words, Means, Fits}
 use Rattle.history_reader.proofs.EntryLaws.{entry-read}

@@ -12,7 +12,8 @@ use Rattle.unix_calls.specs.declared.Reply.{Reply}
 use Rattle.unix_calls.specs.declared.Reply.TheVariants as replies
 use Rattle.unix_calls.specs.declared.Entry.{Entry}
 use Rattle.unix_calls.specs.declared.Entry.TheVariants.{Called, Happened}
-use Rattle.run_text.specs.History.{spaced, line_of, HasReply}
+use Rattle.run_text.specs.History.{spaced, line_of}
+use Rattle.unix_calls.specs.Calls.{HasReply}
 use Rattle.history_reader.specs.Loose.{entry_in}
 use Rattle.history_reader.specs.Reading.{Means, Fits, AllFit, is_nothing, is_last, is_schedule, Ends, OnLine, IsHistory, IsFirstBad}
 use Rattle.history_reader.specs.Laws.{MeansOrFails}

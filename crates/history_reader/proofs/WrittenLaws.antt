@@ -21,7 +21,8 @@ use Rattle.file_parts.specs.Parts.{Lines, stands_alone, is_only}
 use Rattle.text_laws.specs.Plain.{is_plain, are_plain}
 use Rattle.text_laws.proofs.Lines.{lines-newline}
 use Rattle.text_laws.proofs.Words.{words-spaced, line-spaced}
-use Rattle.run_text.specs.History.{spaced, line_of, call_words, reply_words, event_words, last_line, text, IsEntry}
+use Rattle.run_text.specs.History.{spaced, line_of, call_words, reply_words, event_words, last_line, text}
+use Rattle.unix_calls.specs.Calls.{IsEntry}
 use Rattle.history_reader.specs.Reading.{entry_words, Fits, AllFit, is_nothing, is_last, is_schedule, Ends, OnLine, IsHistory}
 use Rattle.history_reader.proofs.FitLaws.{plain-entry}
 use Rattle.history_reader.proofs.HistoryLaws.{no}

@@ -13,7 +13,8 @@ use Rattle.unix_calls.specs.declared.Entry.TheVariants.{Called, Happened}
 use Rattle.byte_ends.specs.Text.{words}
 use Rattle.file_parts.specs.Parts.{Lines, is_only}
 use Rattle.script_words.specs.Words.{is_skipped}
-use Rattle.run_text.specs.History.{Words, call_words, reply_words, event_words, IsEntry}
+use Rattle.run_text.specs.History.{Words, call_words, reply_words, event_words}
+use Rattle.unix_calls.specs.Calls.{IsEntry}
 
 -- the words that are written of an entry
 abbrev pub entry_words : Entry → Words

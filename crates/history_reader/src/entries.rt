@@ -2,7 +2,8 @@
 ghost use Rattle.std.specs.Prelude.{◌≡◌, ◌↔◌, ◌≤◌, ◌++◌, ◌∷◌, [], IsTrue, IfOk, IfSome, IsNone, length, map};
 ghost use Rattle.byte_ends.specs.Text.{words as words_in};
 ghost use Rattle.unix_calls.specs.declared.Entry.{Entry};
-ghost use Rattle.run_text.specs.History.{spaced, line_of, HasReply};
+ghost use Rattle.run_text.specs.History.{spaced, line_of};
+ghost use Rattle.unix_calls.specs.Calls.{HasReply};
 ghost use Rattle.history_reader.specs.Reading.{Means, Fits};
 
 use crate::loose::entry_in;

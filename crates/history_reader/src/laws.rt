@@ -2,7 +2,8 @@
 ghost use Rattle.std.specs.Prelude.{◌≡◌, ℕ, Bool, List, All};
 ghost use Rattle.unix_calls.specs.declared.Entry.{Entry};
 ghost use Rattle.byte_ends.specs.Text.{lines};
-ghost use Rattle.run_text.specs.History.{IsEntry, text};
+ghost use Rattle.unix_calls.specs.Calls.{IsEntry};
+ghost use Rattle.run_text.specs.History.{text};
 ghost use Rattle.history_reader.specs.Reading.{Fits, AllFit, Means, IsHistory};
 ghost use Rattle.history_reader.specs.Laws.{MeansOrFails};
 

@@ -15,7 +15,8 @@ use Rattle.text_laws.specs.Plain.{is_plain, are_plain}
 use Rattle.text_laws.proofs.Lines.{AreLines, lines-written}
 use Rattle.text_laws.proofs.Words.{words-spaced, line-spaced}
 use Rattle.text_laws.proofs.Numbers.{IsNumber-decimal, digits_value-decimal, plain-decimal}
-use Rattle.run_text.specs.Schedule.{SoFar, HasNodes, turns_in, turns_total, turn_of, counted, read_turn, added, after_line, turns_of, schedule, turn_word, turn_words, turn_line, schedule_text}
+use Rattle.run_text.specs.Schedule.{SoFar, HasNodes, turn_of, counted, read_turn, added, after_line, turns_of, schedule, turn_word, turn_words, turn_line, schedule_text}
+use Rattle.unix_calls.specs.Turns.{turns_in, turns_total}
 use Rattle.run_text.proofs.Ascii.{is_low, utf8-from_low, low-append, low-spaced, low-decimal}
 
 -- a number that was written is read

@@ -11,7 +11,6 @@ use Rattle.unix_names.specs.declared.Errno.{Errno}
 use Rattle.unix_names.specs.declared.Errno.TheVariants.{EPERM, ESRCH, EACCES, EINVAL, ECHILD, EAGAIN}
 use Rattle.unix_names.specs.declared.WaitStatus.{WaitStatus}
 use Rattle.unix_names.specs.declared.WaitStatus.TheVariants as statuses
-use Rattle.unix_calls.specs.Calls.{EntryHasNames}
 use Rattle.unix_calls.specs.declared.Call.{Call}
 use Rattle.unix_calls.specs.declared.Call.TheVariants as calls
 use Rattle.unix_calls.specs.declared.Reply.{Reply}
@@ -113,13 +112,3 @@ last_line is_quiet = (if is_quiet then codes "quiet" else codes "open") ++ 10 �
 -- the text of a history
 abbrev pub text : List Entry → Bool → List ℕ
 text entries is_quiet = flat_map line_of entries ++ last_line is_quiet
-
--- an exit alone has no reply
-abbrev pub HasReply : Entry → Type 0
-HasReply (Called caller (calls.Exit n) reply) = reply ≡ replies.NoReply
-HasReply (Called caller call reply) = ¬ (reply ≡ replies.NoReply)
-HasReply (Happened pid event) = Unit {0}
-
--- an entry as a run has it
-abbrev pub IsEntry : Entry → Type 0
-IsEntry entry = HasReply entry × EntryHasNames entry

@@ -6,18 +6,12 @@ use Rattle.std.specs.Str.{is_utf8}
 use Rattle.byte_ends.specs.Text.{words}
 use Rattle.unix_calls.specs.declared.Turn.{Turn}
 use Rattle.unix_calls.specs.declared.Turn.TheVariants.{Go, Push, Take, Auto}
+pub use Rattle.unix_calls.specs.Turns.{turns_in}
 use Rattle.script_words.specs.declared.Kind.{Kind}
 use Rattle.script_words.specs.declared.Kind.TheVariants.{NotUtf8, UnknownWord, TooManyTurns}
 use Rattle.script_words.specs.declared.Fault.{Fault}
 use Rattle.script_words.specs.Words.{Row, ◌>>=◌, is_same, word_at, number, node, ended, is_skipped}
 use Rattle.run_text.specs.History.{spaced}
-
--- how many turns a line stands for
-abbrev pub turns_in : Turn → ℕ
-turns_in (Go n) = 1
-turns_in (Push n k) = 1
-turns_in (Take n m) = 1
-turns_in (Auto k) = k
 
 -- the turn that a line's words say, on a cluster of so many nodes
 unfoldable pub turn_of : ℕ → Row → Result Turn Kind
@@ -92,8 +86,3 @@ turn_line turn = turn_word turn ++ spaced (turn_words turn)
 -- the text of a schedule: a line for each turn
 abbrev pub schedule_text : List Turn → List ℕ
 schedule_text turns = flat_map (λ t. turn_line t ++ 10 ∷ []) turns
-
--- for how many turns some turns stand
-abbrev pub turns_total : List Turn → ℕ
-turns_total [] = 0
-turns_total (t ∷ ts) = turns_in t + turns_total ts

@@ -3,7 +3,8 @@ ghost use Rattle.std.specs.Prelude.{◌≡◌, ◌++◌, ◌∷◌, [], All, IfO
 ghost use Rattle.std.specs.String.{string_bytes};
 ghost use Rattle.unix_names.specs.Signals.{word_of as word};
 ghost use Rattle.unix_names.specs.Sets.{has};
-ghost use Rattle.run_text.specs.History.{IsEntry, spaced, signal_word, set_words, act_word, errno_word, asked_words, call_words, status_words, reply_words, event_words, line_of, last_line, text as text_of};
+ghost use Rattle.unix_calls.specs.Calls.{IsEntry};
+ghost use Rattle.run_text.specs.History.{spaced, signal_word, set_words, act_word, errno_word, asked_words, call_words, status_words, reply_words, event_words, line_of, last_line, text as text_of};
 
 use std::alloc::{AllocError, Global};
 use unix_calls::{Call, Entry, Event, Reply};

@@ -2,7 +2,8 @@
 ghost use Rattle.std.specs.Prelude.{◌≡◌, ◌≤◌, ◌^◌, ℕ, List, All, Ok};
 ghost use Rattle.unix_calls.specs.declared.Turn.{Turn};
 ghost use Rattle.byte_ends.specs.Text.{lines};
-ghost use Rattle.run_text.specs.Schedule.{schedule, schedule_text, turns_total, HasNodes};
+ghost use Rattle.run_text.specs.Schedule.{schedule, schedule_text, HasNodes};
+ghost use Rattle.unix_calls.specs.Turns.{turns_total};
 
 /// A schedule that was written is read back as it was: the nodes are those of the cluster, and the turns stand for 200,000 at most.
 pub fn schedules_read_back()

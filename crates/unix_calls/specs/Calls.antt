@@ -1,6 +1,8 @@
-use Rattle.std.specs.Prelude.{ℤ, pos, negsuc, zero, suc, ◌≤ℤ◌}
+-- What the numbers of a call name, and which entries a history can hold.
+use Rattle.std.specs.Prelude.{ℤ, pos, negsuc, zero, suc, ◌≤ℤ◌, ◌≡◌}
 use Rattle.unix_calls.specs.declared.calls.Call.{Call}
-use Rattle.unix_calls.specs.declared.calls.Call.TheVariants.{Waitpid, Kill, Setpgid}
+use Rattle.unix_calls.specs.declared.calls.Call.TheVariants.{Exit, Waitpid, Kill, Setpgid}
+use Rattle.unix_calls.specs.declared.calls.Reply.TheVariants.{NoReply}
 use Rattle.unix_calls.specs.declared.calls.Entry.{Entry}
 use Rattle.unix_calls.specs.declared.calls.Entry.TheVariants.{Called, Happened}
 use Rattle.unix_calls.specs.declared.calls.Target.{Target}
@@ -23,6 +25,16 @@ HasNames _ = Unit {0}
 abbrev pub EntryHasNames : Entry → Type 0
 EntryHasNames (Called caller call reply) = HasNames call
 EntryHasNames (Happened pid event) = Unit {0}
+
+-- an exit alone has no reply
+abbrev pub HasReply : Entry → Type 0
+HasReply (Called caller (Exit n) reply) = reply ≡ NoReply
+HasReply (Called caller call reply) = ¬ (reply ≡ NoReply)
+HasReply (Happened pid event) = Unit {0}
+
+-- an entry that a history can hold
+abbrev pub IsEntry : Entry → Type 0
+IsEntry entry = HasReply entry × EntryHasNames entry
 
 -- whom a number of kill names (POSIX.1-2017, XSH kill, without -1)
 abbrev pub target_of : ℤ → Target

@@ -1,6 +1,7 @@
 use Rattle.std.proofs.Common.{◌≡◌, ◌∷◌, ◌++◌, [], true, map, sym, ◌∙◌, subst}
 use Rattle.unix_calls.specs.declared.Entry.{Entry}
-use Rattle.run_text.specs.History.{spaced, line_of, HasReply}
+use Rattle.run_text.specs.History.{spaced, line_of}
+use Rattle.unix_calls.specs.Calls.{HasReply}
 use Rattle.history_reader.specs.Reading.{Means}
 use Rattle.history_reader.proofs.Meanings.{meant, seems, written_as}
 use Rattle.history_reader.proofs.entries.entry_of.Goals as goal
