@@ -65,9 +65,9 @@ record Clean (nodes before : ℕ) (l : List ℕ) (count : ℕ) : Type 0 where
   right : (kind : Kind) → ¬ IsWrong nodes (words l) kind
 
 no_fault_here : (nodes before : ℕ) (l : List ℕ) (ls : List (List ℕ)) (count : ℕ) → Clean nodes before l count → (aspect : Aspect) (kind : Kind) → HasFaultFrom nodes before (l ∷ ls) zero aspect kind → ⊥
-no_fault_here nodes before l ls count c text kind (e, line, at, no) =
+no_fault_here nodes before l ls count c text kind (e, line, at, broken) =
     let same = some_same l line at in
-    let clash : true ≡ false = sym c.utf8 ∙ ap is_utf8 same ∙ no in absurd (cc)
+    let clash : true ≡ false = sym c.utf8 ∙ ap is_utf8 same ∙ broken in absurd (cc)
 no_fault_here nodes before l ls count c wording kind (line, at, wrong) = c.right kind (subst (λ x. IsWrong nodes (words x) kind) (sym (some_same l line at)) wrong)
 no_fault_here nodes before l ls count c turns kind (e, line, at, total, (one, more, k, rest, sum), much) =
     let same = counts_one l one count k c.counts in
@@ -105,7 +105,7 @@ LineTold nodes before l (Err kind) =
 
 skipped_right : (nodes : ℕ) (row : Row) (kind : Kind) → is_skipped row ≡ true → IsWrong nodes row kind → ⊥
 skipped_right nodes [] kind s w = w
-skipped_right nodes (x ∷ ws) kind s w = let no = w.0 in absurd (cc)
+skipped_right nodes (x ∷ ws) kind s w = let broken = w.0 in absurd (cc)
 
 counted_told : (nodes before : ℕ) (l : List ℕ) (t : Turn) → is_utf8 l ≡ true → Told nodes (words l) (Ok t) → LineTold nodes before l (counted before t)
 unfolding counted
@@ -121,7 +121,7 @@ read_told nodes before l (Err kind) u told = inr (inl (u, told))
 line_told : (nodes before : ℕ) (l : List ℕ) → before ≤ 200000 → LineTold nodes before l (read_turn nodes before l)
 unfolding read_turn
 line_told nodes before l few = elim (cases_Bool (is_utf8 l)) [
-  | inr no ↦ rw no (inl (refl, no))
+  | inr broken ↦ rw broken (inl (refl, broken))
   | inl utf8 ↦ rw utf8 (elim (cases_Bool (is_skipped (words l))) [
     | inl skip ↦ rw skip (record {
       counts = inr (λ t. skipped_unsaid (words l) t skip, refl);
@@ -136,13 +136,13 @@ line_told nodes before l few = elim (cases_Bool (is_utf8 l)) [
 -- ---- a fault of the first line is the least
 module _ (nodes before first : ℕ) (l : List ℕ) (ls : List (List ℕ)) where
   utf8_here : (line : List ℕ) → is_utf8 l ≡ true → slice_get (l ∷ ls) zero ≡ Some line → is_utf8 line ≡ false → ⊥
-  utf8_here line u at no = let clash : true ≡ false = sym u ∙ ap is_utf8 (some_same l line at) ∙ no in absurd (cc)
+  utf8_here line u at broken = let clash : true ≡ false = sym u ∙ ap is_utf8 (some_same l line at) ∙ broken in absurd (cc)
 
   wrong_here : (line : List ℕ) (kind : Kind) → slice_get (l ∷ ls) zero ≡ Some line → IsWrong nodes (words line) kind → IsWrong nodes (words l) kind
   wrong_here line kind at wrong = subst (λ x. IsWrong nodes (words x) kind) (sym (some_same l line at)) wrong
 
   least_here : (kind : Kind) → LineTold nodes before l (Err kind) → LeastFrom nodes before first (l ∷ ls) (record { line = first; kind = kind })
-  least_here kind (inl (e, no)) = record { k = zero; aspect = text; at_line = omega arith; is = (e, l, refl, no); least = least }
+  least_here kind (inl (e, broken)) = record { k = zero; aspect = text; at_line = omega arith; is = (e, l, refl, broken); least = least }
     where
       least : (k' : ℕ) (aspect' : Aspect) (kind' : Kind) → HasFaultFrom nodes before (l ∷ ls) k' aspect' kind' → IsNotBefore zero text kind k' aspect' kind'
       least zero text kind' h = inr (inr (refl, refl, h.0 ∙ sym e))
@@ -152,7 +152,7 @@ module _ (nodes before first : ℕ) (l : List ℕ) (ls : List (List ℕ)) where
   least_here kind (inr (inl (u, wrong))) = record { k = zero; aspect = wording; at_line = omega arith; is = (l, refl, wrong); least = least }
     where
       least : (k' : ℕ) (aspect' : Aspect) (kind' : Kind) → HasFaultFrom nodes before (l ∷ ls) k' aspect' kind' → IsNotBefore zero wording kind k' aspect' kind'
-      least zero text kind' (e, line, at, no) = absurd (utf8_here line u at no)
+      least zero text kind' (e, line, at, broken) = absurd (utf8_here line u at broken)
       least zero wording kind' (line, at, w) = inr (inr (refl, refl, is_wrong_same nodes (words l) kind' kind (wrong_here line kind' at w) wrong))
       least zero turns kind' h = inr (inl (refl, omega arith))
       least (suc k') aspect' kind' h = inl (omega arith)
@@ -165,7 +165,7 @@ module _ (nodes before first : ℕ) (l : List ℕ) (ls : List (List ℕ)) where
   }
     where
       least : (k' : ℕ) (aspect' : Aspect) (kind' : Kind) → HasFaultFrom nodes before (l ∷ ls) k' aspect' kind' → IsNotBefore zero turns kind k' aspect' kind'
-      least zero text kind' (e', line, at, no) = absurd (utf8_here line u at no)
+      least zero text kind' (e', line, at, broken) = absurd (utf8_here line u at broken)
       least zero wording kind' (line, at, w) = absurd (right kind' (wrong_here line kind' at w))
       least zero turns kind' h = inr (inr (refl, refl, h.0 ∙ sym e))
       least (suc k') aspect' kind' h = inl (omega arith)

@@ -137,7 +137,7 @@ begins_one : (w : Word) (f g : List Place) → Begins w f → Begins w g → f �
 begins_one w f g a b = begins_form w f a ∙ sym (begins_form w g b)
 
 -- ---- whole lines
-is_wrong_same : (nodes : ℕ) (row : Row) (a b : Kind) → IsWrong nodes row a → IsWrong nodes row b → a ≡ b
+pub is_wrong_same : (nodes : ℕ) (row : Row) (a b : Kind) → IsWrong nodes row a → IsWrong nodes row b → a ≡ b
 is_wrong_same nodes [] a b v w = absurd v
 is_wrong_same nodes (x ∷ ws) a b (s, v) (t, w) = go v w
   where
@@ -235,16 +235,16 @@ two_done nodes T w ws said b says (Err kind) o = (said, inr (node ∷ node ∷ [
 
 -- what is read of the words of a line
 pub turn_told : (nodes : ℕ) (row : Row) → AreSome row → is_skipped row ≡ false → Told nodes row (turn_of nodes row)
-unfolding turn_of word_at is_skipped
+unfolding turn_of word_at is_skipped value
 turn_told nodes [] some said = absurd (cc)
 turn_told nodes (w ∷ ws) some said = elim (cases_Bool (is_same w (codes "go"))) [
-  | inl go ↦ rw go (let e = same w (codes "go") go in one_done nodes node (λ n. Go n) w ws said (inl (e, refl)) (λ a h. (e, h, refl)) _ (node_read (λ n. Go n)))
+  | inl go ↦ rw go (let e = same w (codes "go") go in one_done nodes node (λ n. Go n) w ws said (inl (e, refl)) (λ a h. (e, (h, refl))) _ (node_read (λ n. Go n)))
   | inr no_go ↦ rw no_go (elim (cases_Bool (is_same w (codes "push"))) [
     | inl push ↦ rw push (let e = same w (codes "push") push in two_done nodes (λ n k. Push n k) w ws said (inr (inl (e, refl))) (λ a b h k. (e, (h, refl), (k, refl))) _ (two_read nodes (λ n k. Push n k) w ws some.1))
     | inr no_push ↦ rw no_push (elim (cases_Bool (is_same w (codes "take"))) [
       | inl take ↦ rw take (let e = same w (codes "take") take in two_done nodes (λ n m. Take n m) w ws said (inr (inr (inl (e, refl)))) (λ a b h k. (e, (h, refl), (k, refl))) _ (two_read nodes (λ n m. Take n m) w ws some.1))
       | inr no_take ↦ rw no_take (elim (cases_Bool (is_same w (codes "auto"))) [
-        | inl auto ↦ rw auto (let e = same w (codes "auto") auto in one_done nodes number (λ k. Auto k) w ws said (inr (inr (inr (e, refl)))) (λ a h. (e, h, refl)) _ (number_read (λ k. Auto k)))
+        | inl auto ↦ rw auto (let e = same w (codes "auto") auto in one_done nodes number (λ k. Auto k) w ws said (inr (inr (inr (e, refl)))) (λ a h. (e, (h, refl))) _ (number_read (λ k. Auto k)))
         | inr no_auto ↦ rw no_auto (said, inl (none no_go no_push no_take no_auto, refl))
       ])
     ])
@@ -252,11 +252,9 @@ turn_told nodes (w ∷ ws) some said = elim (cases_Bool (is_same w (codes "go"))
 ]
   where
     node_read : (T : ℕ → Turn) → OneTold nodes node T ws (node_of nodes (word_at (w ∷ ws) 1) >>= λ n. ended (w ∷ ws) 2 (T n))
-    unfolding value
     node_read T = one_read nodes node T w ws some.1
 
     number_read : (T : ℕ → Turn) → OneTold nodes number T ws (number_of (word_at (w ∷ ws) 1) >>= λ n. ended (w ∷ ws) 2 (T n))
-    unfolding value
     number_read T = one_read nodes number T w ws some.1
 
     none : is_same w (codes "go") ≡ false → is_same w (codes "push") ≡ false → is_same w (codes "take") ≡ false → is_same w (codes "auto") ≡ false → (form : List Place) → Begins w form → ⊥
