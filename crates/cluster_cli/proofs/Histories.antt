@@ -5,7 +5,7 @@ use Rattle.std.proofs.lemmas.List.Elements.{All-nil, All-cons}
 use Rattle.unix_calls.specs.declared.Entry.{Entry}
 use Rattle.unix_calls.specs.Calls.{EntryHasNames}
 use Rattle.file_parts.specs.Parts.{Lines}
-use Rattle.history_reader.specs.Reading.{is_nothing, is_schedule, is_last, OnLine, IsHistory}
+use Rattle.histories.specs.Reading.{is_nothing, is_schedule, is_last, OnLine, IsHistory}
 use Rattle.cluster_cli.specs.Audit.{HasHistory}
 
 no_entries : (es : List Entry) → es ≡ [] → All EntryHasNames es

@@ -9,7 +9,7 @@ use Rattle.kernel_model.specs.declared.verdict.Rule.TheVariants.{UnknownProcess,
 use Rattle.audit_core.specs.declared.judge.Judged.TheVariants as judged
 use Rattle.audit_core.specs.Judge.{IsJudged}
 use Rattle.file_parts.specs.Parts.{Lines, front_lines, history_lines}
-use Rattle.history_reader.specs.Reading.{IsHistory, IsFirstBad}
+use Rattle.histories.specs.Reading.{IsHistory, IsFirstBad}
 use Rattle.cluster_cli.specs.declared.status.Status.{Status}
 use Rattle.cluster_cli.specs.declared.status.Status.TheVariants.{Done, BadFile, Illegal}
 use Rattle.cluster_cli.specs.declared.input.Given.{Given}

@@ -11,7 +11,7 @@ use Rattle.unix_calls.specs.declared.Turn.TheVariants.{Auto}
 use Rattle.unix_calls.specs.declared.World.{World}
 use Rattle.script_laws.specs.Grammar.{IsFile}
 use Rattle.load_maker.specs.Made.{made}
-use Rattle.run_text.specs.History.{last_line}
+use Rattle.histories.specs.History.{last_line}
 use Rattle.solo_core.specs.declared.played.Played.{Played}
 use Rattle.solo_core.specs.Run.{run}
 use Rattle.cluster_cli.specs.declared.loads.Counts.{Counts}

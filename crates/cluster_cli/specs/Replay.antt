@@ -3,7 +3,7 @@ use Rattle.std.specs.Prelude.{◌≡◌, Bool, true, false, List, [], ℕ, Ok}
 use Rattle.proc_image.specs.declared.image.Image.{Image}
 use Rattle.kernel_model.specs.Legal.{IsLegal}
 use Rattle.proc_image.specs.Follows.{Follows}
-use Rattle.run_text.specs.History.{text}
+use Rattle.histories.specs.History.{text}
 use Rattle.solo_core.specs.declared.played.Played.{Played}
 use Rattle.solo_core.specs.Run.{run, IsQuiet}
 use Rattle.audit_core.specs.Finished.{IsFinished}

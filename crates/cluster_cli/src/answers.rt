@@ -17,7 +17,7 @@ use crate::status::Status;
 use audit_core::{Judged, audit as judge};
 use solo_core::run;
 use file_parts::{Parts, Span, split};
-use history_reader::{TextRefusal, read_history};
+use histories::{TextRefusal, read_history};
 use kernel_model::Rule;
 use run_text::put_history;
 use script_words::{Fault, ReadRefusal};

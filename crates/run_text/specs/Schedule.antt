@@ -11,7 +11,7 @@ use Rattle.script_words.specs.declared.Kind.{Kind}
 use Rattle.script_words.specs.declared.Kind.TheVariants.{NotUtf8, UnknownWord, TooManyTurns}
 use Rattle.script_words.specs.declared.Fault.{Fault}
 use Rattle.script_words.specs.Words.{Row, ◌>>=◌, is_same, word_at, number, node, ended, is_skipped}
-use Rattle.run_text.specs.History.{spaced}
+use Rattle.script_words.specs.Writing.{spaced}
 
 -- the turn that a line's words say, on a cluster of so many nodes
 unfoldable pub turn_of : ℕ → Row → Result Turn Kind

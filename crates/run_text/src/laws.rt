@@ -2,6 +2,7 @@
 ghost use Rattle.std.specs.Prelude.{◌≡◌, ◌≤◌, ◌^◌, ℕ, List, All, Ok};
 ghost use Rattle.unix_calls.specs.declared.Turn.{Turn};
 ghost use Rattle.byte_ends.specs.Text.{lines};
+ghost use Rattle.run_text.specs.Faults.{LeastIsTold};
 ghost use Rattle.run_text.specs.Schedule.{schedule, schedule_text, HasNodes};
 ghost use Rattle.unix_calls.specs.Turns.{turns_total};
 
@@ -9,4 +10,9 @@ ghost use Rattle.unix_calls.specs.Turns.{turns_total};
 pub fn schedules_read_back()
     ensures { (nodes number : ℕ) (turns : List Turn) → nodes ≤ 2 ^ 32 → All (HasNodes nodes) turns → turns_total turns ≤ 200000
         → schedule nodes number (lines (schedule_text turns)) ≡ Ok turns }
+{}
+
+/// The fault that is told of a schedule is its least one, and the least one is told.
+pub fn least_is_told()
+    ensures { LeastIsTold }
 {}

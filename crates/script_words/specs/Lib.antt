@@ -1,2 +1,4 @@
 pub mod Kinds
+pub mod Table
 pub mod Words
+pub mod Writing

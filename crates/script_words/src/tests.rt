@@ -1,9 +1,10 @@
 use crate::{
-    Fault, Kind, ReadRefusal, ended, is_minus_digits, is_skipped, name, node, number, signal,
-    signal_number,
+    Fault, Kind, ReadRefusal, Verb, act_named, changes_in, ended, errno_named, is_minus_digits,
+    is_skipped, name, node, number, put_changes, put_members, put_signal, put_word, signal,
+    signal_number, verb_named, verb_word,
 };
 use std::test::Fail;
-use unix_names::Signal;
+use unix_names::{Act, Errno, SigSet, Signal};
 
 #[test]
 fn reads_names(rt: HostRuntime) {
@@ -71,5 +72,31 @@ fn tells_faults(rt: HostRuntime) -> Result<(), Fail> {
     let refusal = ReadRefusal::Bad(fault);
     let text = format!(in rt.alloc(); "{refusal}")?;
     assert_eq!(rt; text.as_str(), "bad file: line 7: LaterScript");
+    Ok(())
+}
+
+#[test]
+fn reads_words_of_the_table(rt: HostRuntime) {
+    assert_eq!(rt; verb_named(b"poll"), Some(Verb::Poll));
+    assert_eq!(rt; verb_named(b"waitpid"), None);
+    assert_eq!(rt; act_named(b"catch"), Some(Act::Catch));
+    assert_eq!(rt; act_named(b"CATCH"), None);
+    assert_eq!(rt; errno_named(b"ECHILD"), Some(Errno::ECHILD));
+    assert_eq!(rt; changes_in(&[b"stopped", b"continued"]), Some((true, true)));
+    assert_eq!(rt; changes_in(&[b"continued", b"stopped"]), None);
+}
+
+#[test]
+fn puts_words(rt: HostRuntime) -> Result<(), Fail> {
+    let mut text = String::new(rt.alloc());
+    put_word(&mut text, verb_word(Verb::Mask))?;
+    put_members(
+        &mut text,
+        SigSet::empty().with(Signal::Term).with(Signal::Hup),
+    )?;
+    put_signal(&mut text, 15)?;
+    put_signal(&mut text, 77)?;
+    put_changes(&mut text, true, true)?;
+    assert_eq!(rt; text.as_str(), " mask HUP TERM TERM 77 stopped continued");
     Ok(())
 }

@@ -1,0 +1,58 @@
+// Words that are put behind a text, each behind a space.
+ghost use Rattle.std.specs.Prelude.{◌≡◌, ◌++◌, ◌∷◌, OnOk, map, filter};
+ghost use Rattle.std.specs.String.{string_bytes};
+ghost use Rattle.unix_names.specs.Signals.{word_of as word};
+ghost use Rattle.unix_names.specs.Sets.{has};
+ghost use Rattle.script_words.specs.Table.{change_words};
+ghost use Rattle.script_words.specs.Writing.{spaced, signal_word, member_words};
+
+use std::alloc::AllocError;
+use unix_names::{ALL_SIGNALS, SigSet, Signal, signal_of, word_of};
+
+/// Puts a word behind a text. Where memory runs out the text may have part of it.
+pub fn put_word(text: &mut String, word: &str) -> Result<(), AllocError>
+    ensures { OnOk result (string_bytes text.new ≡ string_bytes text.old ++ 32 ∷ word.now) }
+{
+    text.push_str(" ")?;
+    text.push_str(word)
+}
+
+/// Puts a signal's word behind a text, or the number where it is no signal's. Where memory runs out the text may have part of it.
+pub fn put_signal(text: &mut String, number: u32) -> Result<(), AllocError>
+    ensures { OnOk result (string_bytes text.new ≡ string_bytes text.old ++ 32 ∷ signal_word number) }
+{
+    match signal_of(number) {
+        Some(signal) => put_word(text, word_of(signal)),
+        None => write!(text, " {number}"),
+    }
+}
+
+/// Puts the words of a set's signals behind a text, by number. Where memory runs out the text may have part of them.
+pub fn put_members(text: &mut String, set: SigSet) -> Result<(), AllocError>
+    ensures { OnOk result (string_bytes text.new ≡ string_bytes text.old ++ spaced (member_words set)) }
+{
+    put_those_in(text, set, &ALL_SIGNALS)
+}
+
+fn put_those_in(text: &mut String, set: SigSet, signals: &[Signal]) -> Result<(), AllocError>
+    ensures { OnOk result (string_bytes text.new ≡ string_bytes text.old ++ spaced (map word (filter (has set) signals.now))) }
+{
+    for signal in signals {
+        if set.has(*signal) {
+            put_word(text, word_of(*signal))?;
+        }
+    }
+    Ok(())
+}
+
+/// Puts the changes of a child that are asked for beside its end behind a text. Where memory runs out the text may have part of them.
+pub fn put_changes(text: &mut String, stopped: bool, continued: bool) -> Result<(), AllocError>
+    ensures { OnOk result (string_bytes text.new ≡ string_bytes text.old ++ spaced (change_words stopped continued)) }
+{
+    match (stopped, continued) {
+        (false, false) => Ok(()),
+        (true, false) => text.push_str(" stopped"),
+        (false, true) => text.push_str(" continued"),
+        (true, true) => text.push_str(" stopped continued"),
+    }
+}
