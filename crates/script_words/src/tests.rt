@@ -1,5 +1,5 @@
 use crate::{
-    Fault, Kind, ReadRefusal, ended, is_minus_digits, is_skipped, name, node, number, signal,
+    Fault, Kind, ended, is_minus_digits, is_skipped, name, node, number, signal,
     signal_number,
 };
 use std::test::Fail;
@@ -68,8 +68,7 @@ fn tells_faults(rt: HostRuntime) -> Result<(), Fail> {
         line: 7,
         kind: Kind::LaterScript,
     };
-    let refusal = ReadRefusal::Bad(fault);
-    let text = format!(in rt.alloc(); "{refusal}")?;
+    let text = format!(in rt.alloc(); "{fault}")?;
     assert_eq!(rt; text.as_str(), "bad file: line 7: LaterScript");
     Ok(())
 }
