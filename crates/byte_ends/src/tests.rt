@@ -1,26 +1,24 @@
 use crate::{
-    MemSink, MemSource, ReadEnd, StdIn, StdOut, WriteFault, next_line, number_at, read_all,
+    LONGEST_INPUT, MemSink, MemSource, ReadEnd, StdEnd, WriteFault, next_line, number_at, read_all,
     words_of, write_all,
 };
 use std::test::Fail;
 
-const LIMIT: usize = 1_048_576;
-
 #[test]
 fn the_limit_is_the_longest_input(rt: HostRuntime) -> Result<(), Fail> {
-    let text = vec![in rt.alloc(); 7u8; LIMIT]?;
+    let text = vec![in rt.alloc(); 7u8; LONGEST_INPUT]?;
     let copy = text.clone()?;
     let mut source = MemSource::new(text, vec![in rt.alloc()]?);
-    assert_eq!(rt; read_all(rt.alloc(), &mut source, LIMIT), Ok(copy));
+    assert_eq!(rt; read_all(rt.alloc(), &mut source, LONGEST_INPUT), Ok(copy));
     Ok(())
 }
 
 #[test]
 fn one_byte_more_is_too_long(rt: HostRuntime) -> Result<(), Fail> {
-    let text = vec![in rt.alloc(); 7u8; LIMIT + 1]?;
+    let text = vec![in rt.alloc(); 7u8; LONGEST_INPUT + 1]?;
     let mut source = MemSource::new(text, vec![in rt.alloc()]?);
     assert_eq!(rt;
-        read_all(rt.alloc(), &mut source, LIMIT),
+        read_all(rt.alloc(), &mut source, LONGEST_INPUT),
         Err(ReadEnd::TooLong)
     );
     Ok(())
@@ -32,7 +30,7 @@ fn a_read_that_fails(rt: HostRuntime) -> Result<(), Fail> {
         let text = vec![in rt.alloc(); 7u8; 100_000]?;
         let mut source = MemSource::new(text, vec![in rt.alloc(); call]?);
         assert_eq!(rt;
-            read_all(rt.alloc(), &mut source, LIMIT),
+            read_all(rt.alloc(), &mut source, LONGEST_INPUT),
             Err(ReadEnd::ReadFault)
         );
     }
@@ -64,15 +62,15 @@ fn a_sink_without_room(rt: HostRuntime) -> Result<(), Fail> {
 #[test]
 fn readers_and_writers_of_std(rt: HostRuntime) -> Result<(), Fail> {
     let mut written = vec![in rt.alloc()]?;
-    let mut source = StdIn::new(b"2 exit 0\nquiet\n".as_slice());
+    let mut source = StdEnd::new(b"2 exit 0\nquiet\n".as_slice());
     let text = read_all(rt.alloc(), &mut source, 100)
         .ok()
         .ok_or("not read")?;
-    let mut sink = StdOut::new(&mut written);
+    let mut sink = StdEnd::new(&mut written);
     assert_eq!(rt; write_all(&mut sink, &text), Ok(()));
     assert_eq!(rt; written.as_slice(), b"2 exit 0\nquiet\n".as_slice());
     let mut small = [0u8; 5];
-    let mut full = StdOut::new(small.as_mut_slice());
+    let mut full = StdEnd::new(small.as_mut_slice());
     assert_eq!(rt; write_all(&mut full, b"quiet\n"), Err(WriteFault));
     assert_eq!(rt; small.as_slice(), b"quiet".as_slice());
     Ok(())

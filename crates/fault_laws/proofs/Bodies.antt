@@ -16,6 +16,7 @@ use Rattle.fault_laws.proofs.Counted.{starts_behind}
 use Rattle.fault_laws.proofs.Weights.{have_same}
 use Rattle.fault_laws.proofs.Weighed.{StandAt, have_bodies}
 use Rattle.fault_laws.proofs.Started.{scripts_started, started_same, AreNamed, AllOk, told_named, named_one, taken, rows_taken}
+use Rattle.unix_calls.specs.declared.limits.TheConstants.{MOST_PROCESSES, MOST_WORK}
 
 -- the lines up to and with this one are read without a fault
 abbrev pub AreReadTo : List (List ℕ) → ℕ → Type 0
@@ -23,19 +24,19 @@ AreReadTo lines k = (j : ℕ) (t : Told) → j ≤ k → slice_get (told_of line
 
 -- ---- work that is little is not much
 much_more : (w : Work) → is_little w ≡ false → IsMuch w
-much_more w e = go (nat_le w.processes 1024) (nat_le w.statements 4096) refl refl e
+much_more w e = go (nat_le w.processes MOST_PROCESSES) (nat_le w.statements MOST_WORK) refl refl e
   where
-    go : (a b : Bool) → nat_le w.processes 1024 ≡ a → nat_le w.statements 4096 ≡ b → a && b ≡ false → IsMuch w
-    go false b ea eb h = inl (leb-false w.processes 1024 ea)
-    go true false ea eb h = inr (leb-false w.statements 4096 eb)
+    go : (a b : Bool) → nat_le w.processes MOST_PROCESSES ≡ a → nat_le w.statements MOST_WORK ≡ b → a && b ≡ false → IsMuch w
+    go false b ea eb h = inl (leb-false w.processes MOST_PROCESSES ea)
+    go true false ea eb h = inr (leb-false w.statements MOST_WORK eb)
     go true true ea eb h = cc
 
 little_not : (w : Work) → is_little w ≡ true → IsMuch w → ⊥
 little_not w e much =
-    let p = and_parts (nat_le w.processes 1024) (nat_le w.statements 4096) e in
-    no (leb-true w.processes 1024 p.0) (leb-true w.statements 4096 p.1) much
+    let p = and_parts (nat_le w.processes MOST_PROCESSES) (nat_le w.statements MOST_WORK) e in
+    no (leb-true w.processes MOST_PROCESSES p.0) (leb-true w.statements MOST_WORK p.1) much
   where
-    no : w.processes ≤ 1024 → w.statements ≤ 4096 → IsMuch w → ⊥
+    no : w.processes ≤ MOST_PROCESSES → w.statements ≤ MOST_WORK → IsMuch w → ⊥
     no a b (inl m) = omega arith
     no a b (inr m) = omega arith
 

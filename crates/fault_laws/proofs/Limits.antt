@@ -15,6 +15,7 @@ use Rattle.script_laws.proofs.Words.{same_words, verb_word}
 use Rattle.script_laws.proofs.Heads.{verb_head, script_head, start_head}
 use Rattle.fault_laws.specs.Context.{is_begun, is_open, is_statement, statement_count, script_names, start_names}
 use Rattle.fault_laws.specs.Faults.{PassesLimit}
+use Rattle.unix_calls.specs.declared.limits.TheConstants.{MOST_SCRIPTS, MOST_STATEMENTS, MOST_STARTS}
 
 -- ---- what lines begin with
 hash_head : (cs : Word) → head_of (35 ∷ cs) ≡ head.Unknown
@@ -47,10 +48,10 @@ statement_head row e = go (verb_named (word_at row 0)) refl e
 -- ---- limits
 -- a line that begins so passes a limit
 abbrev pub Over : List Row → Head → Kind → Type 0
-Over before head.Script kind = (kind ≡ TooManyScripts) × (length (script_names before) ≡ 64)
+Over before head.Script kind = (kind ≡ TooManyScripts) × (length (script_names before) ≡ MOST_SCRIPTS)
 Over before head.End kind = ⊥
-Over before head.Start kind = (kind ≡ TooManyStarts) × (length (start_names before) ≡ 64)
-Over before (head.Says v) kind = (kind ≡ TooManyStatements) × (is_open before ≡ true) × (statement_count before ≡ 256)
+Over before head.Start kind = (kind ≡ TooManyStarts) × (length (start_names before) ≡ MOST_STARTS)
+Over before (head.Says v) kind = (kind ≡ TooManyStatements) × (is_open before ≡ true) × (statement_count before ≡ MOST_STATEMENTS)
 Over before head.Unknown kind = ⊥
 
 -- a line passes one limit only

@@ -22,35 +22,36 @@ use Rattle.fault_laws.proofs.Knows.{AreWords, Knows}
 use Rattle.fault_laws.proofs.Readings.{number_told, name_told, new_start_told, earlier_start_told}
 use Rattle.fault_laws.proofs.Shapes.{bind_assoc, Reads, map_told, read_so, fitting, misfitting, needs_all, needs_told, ended_told, may_told, may_or}
 use Rattle.fault_laws.proofs.Statements.{name_none, number_none, number_at, node_at, any_script_at}
+use Rattle.unix_calls.specs.declared.limits.TheConstants.{MOST_NODES}
 
 -- ---- the cluster's line
 module _ (rows before : List Row) (row : Row) (are : AreWords row) where
   -- the number of nodes, behind the cluster's word
   abbrev pub nodes_read : Result Item Kind
-  nodes_read = number (word_at row 1) >>= λ n. cond (nat_lt 0 n && nat_le n 64) (ended {A = Unit {0}} row 2 tt >>= λ _. Ok (item.Nodes n)) (Err TooManyNodes)
+  nodes_read = number (word_at row 1) >>= λ n. cond (nat_lt 0 n && nat_le n MOST_NODES) (ended {A = Unit {0}} row 2 tt >>= λ _. Ok (item.Nodes n)) (Err TooManyNodes)
 
-  total_of : (n : ℕ) → (nat_lt 0 n && nat_le n 64) ≡ true → IsTotal n
-  total_of n e = let p = and_parts (nat_lt 0 n) (nat_le n 64) e in (ltb-true 0 n p.0, leb-true n 64 p.1)
+  total_of : (n : ℕ) → (nat_lt 0 n && nat_le n MOST_NODES) ≡ true → IsTotal n
+  total_of n e = let p = and_parts (nat_lt 0 n) (nat_le n MOST_NODES) e in (ltb-true 0 n p.0, leb-true n MOST_NODES p.1)
 
-  total_not : (n : ℕ) → (nat_lt 0 n && nat_le n 64) ≡ false → ¬ IsTotal n
-  total_not n e t = go (nat_lt 0 n) (nat_le n 64) refl refl e
+  total_not : (n : ℕ) → (nat_lt 0 n && nat_le n MOST_NODES) ≡ false → ¬ IsTotal n
+  total_not n e t = go (nat_lt 0 n) (nat_le n MOST_NODES) refl refl e
     where
-      go : (a b : Bool) → nat_lt 0 n ≡ a → nat_le n 64 ≡ b → (a && b) ≡ false → ⊥
+      go : (a b : Bool) → nat_lt 0 n ≡ a → nat_le n MOST_NODES ≡ b → (a && b) ≡ false → ⊥
       go true true x y h = cc
-      go true false x y h = let lt : 64 < n = leb-false n 64 y in omega (arith, t.1)
+      go true false x y h = let lt : MOST_NODES < n = leb-false n MOST_NODES y in omega (arith, t.1)
       go false b x y h = let le : n ≤ 0 = ltb-false 0 n x in omega (arith, t.0)
 
   pub nodes_told : Reads rows before row are nodes_read (needs slot.total ends) 1
   nodes_told =
       needs_all rows before row are slot.total ends 1 nodes_read (λ e. ap (λ w. number w >>= f) e ∙ ap (λ r. r >>= f) number_none) (λ some.
       tells_next (number (word_at row 1)) f (λ n. IsNumber (word_at row 1) × (digits_value 10 (word_at row 1) ≡ n)) (Misfits [] [] slot.number (word_at row 1)) _ _ (number_told (word_at row 1) some) (λ n e is.
-      tells_choice (nat_lt 0 n && nat_le n 64) _ _ _ _
+      tells_choice (nat_lt 0 n && nat_le n MOST_NODES) _ _ _ _
       (λ t. fitting rows before row are slot.total ends 1 _ (is.0, subst IsTotal (sym is.1) (total_of n t)) (map_told rows before (ended {A = Unit {0}} row 2 tt) (λ _. item.Nodes n) ends (drop 2 row) (ended_told rows before row are 2 tt)))
       (λ t. misfitting rows before row are slot.total ends 1 TooManyNodes (inr (refl, is.0, λ total. total_not n t (subst IsTotal is.1 total)))))
       (λ kind m. inl (inl m)))
     where
       f : ℕ → Result Item Kind
-      f n = cond (nat_lt 0 n && nat_le n 64) (ended {A = Unit {0}} row 2 tt >>= λ _. Ok (item.Nodes n)) (Err TooManyNodes)
+      f n = cond (nat_lt 0 n && nat_le n MOST_NODES) (ended {A = Unit {0}} row 2 tt >>= λ _. Ok (item.Nodes n)) (Err TooManyNodes)
 
 -- ---- lines behind that one
 module _ (names : Names) (place : Place) (rows before : List Row) (row : Row) (knows : Knows names place rows before row) (are : AreWords row) where

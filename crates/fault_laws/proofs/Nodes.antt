@@ -21,6 +21,7 @@ use Rattle.script_laws.proofs.Lines.{step}
 use Rattle.script_laws.proofs.Walks.{nodes_stay}
 use Rattle.script_laws.proofs.Understood.{number_understood}
 use Rattle.fault_laws.specs.Context.{says_something, is_begun, nodes_in}
+use Rattle.unix_calls.specs.declared.limits.TheConstants.{MOST_NODES}
 
 -- ---- the place behind a line that says something
 placed_nodes : (place : Place) (nodes : ℕ) (h : Head) → ((placed_after place nodes h).nodes ≡ nodes) × ((placed_after place nodes h).begun ≡ true)
@@ -105,7 +106,7 @@ unfolding cluster_line
 cluster_number row n e =
     let c = then_ok (is_same (word_at row 0) (codes "cluster")) _ NoClusterLine (item.Nodes n) e in
     let m = next_ok (number (word_at row 1)) _ (item.Nodes n) c.1 in
-    let t = then_ok (nat_lt 0 m.0 && nat_le m.0 64) _ TooManyNodes (item.Nodes n) m.2 in
+    let t = then_ok (nat_lt 0 m.0 && nat_le m.0 MOST_NODES) _ TooManyNodes (item.Nodes n) m.2 in
     let d = next_ok (ended {A = Unit {0}} row 2 tt) _ (item.Nodes n) t.1 in
     let is : m.0 ≡ n = cc in
     ((number_understood (word_at row 1)).fact m.0 m.1).1 ∙ is

@@ -29,6 +29,7 @@ use Rattle.fault_laws.specs.Slots.{Fits, Misfits, IsNoName, IsNoTarget, NamesGro
 use Rattle.fault_laws.proofs.Words.{differ, not_both, form_known, form_passes, one_first, process_first, minus_digits_not, rest_same, digit_no_signal, named_not, number_digit}
 use Rattle.fault_laws.proofs.Tells.{Tells, tells_ok, tells_err, tells_next, tells_choice, tells_weaker}
 use Rattle.fault_laws.proofs.Knows.{Knows}
+use Rattle.script_words.specs.declared.limits.TheConstants.{LONGEST_NAME}
 
 -- what is found, or nothing is
 found_told : {A : Type 0} (o : Option A) (kind : Kind) → Tells (found o kind) (λ x. o ≡ Some x) (λ k. (k ≡ kind) × (o ≡ None))
@@ -52,9 +53,9 @@ pub name_told : (word : Word) → Tells (name word) (λ u. IsName word) (IsNoNam
 unfolding name
 name_told word =
     tells_choice (has_name_form word && not (is_reserved word)) _ _ _ _
-    (λ e. tells_choice (nat_le (length word) 16) _ _ _ _
-    (λ few. tells_ok tt _ _ (record { form = form_known word e; few = leb-true (length word) 16 few }))
-    (λ many. tells_err LongName _ _ (inr (refl, form_known word e, leb-false (length word) 16 many))))
+    (λ e. tells_choice (nat_le (length word) LONGEST_NAME) _ _ _ _
+    (λ few. tells_ok tt _ _ (record { form = form_known word e; few = leb-true (length word) LONGEST_NAME few }))
+    (λ many. tells_err LongName _ _ (inr (refl, form_known word e, leb-false (length word) LONGEST_NAME many))))
     (λ e. tells_err UnknownWord _ _ (inl (refl, λ f. not_both _ (form_passes word f) e)))
 
 -- a name that a table may have

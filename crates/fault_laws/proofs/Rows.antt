@@ -28,6 +28,7 @@ use Rattle.fault_laws.proofs.Shapes.{At, map_told, ended_told}
 use Rattle.fault_laws.proofs.Statements.{statement_told}
 use Rattle.fault_laws.proofs.Lines.{nodes_read, nodes_told, title_read, title_told, start_words_told}
 use Rattle.fault_laws.proofs.Limits.{Over, over_same, limit_over, skipped_head}
+use Rattle.unix_calls.specs.declared.limits.TheConstants.{MOST_SCRIPTS, MOST_STATEMENTS, MOST_STARTS}
 
 -- no limit is passed, and no word is wrong
 pub record IsCleanRow (rows before : List Row) (row : Row) : Type 0 where
@@ -120,15 +121,15 @@ module _ (names : Names) (place : Place) (rows before : List Row) (word : Word) 
     script_told : head_of First ≡ head.Script → First ≡ codes "script" → Read (script_line names place Line)
     unfolding script_line
     script_told h w =
-        tells_choice (place.scripts == 64) (Err TooManyScripts) _ _ _ (λ e. by_limit TooManyScripts (inl (refl, has_begun, begins, sym knows.scripts ∙ eqb-true place.scripts 64 e))) (λ few.
+        tells_choice (place.scripts == MOST_SCRIPTS) (Err TooManyScripts) _ _ _ (λ e. by_limit TooManyScripts (inl (refl, has_begun, begins, sym knows.scripts ∙ eqb-true place.scripts MOST_SCRIPTS e))) (λ few.
         tells_choice place.is_open (Err UnknownWord) _ _ _ (λ o. unknown true head.Script o h refl (fits few)) (λ c.
         by_form (title_read names place rows before Line knows are) (needs slot.new_script ends) (inr (inl (has_begun, opened false c, sym first ∙ w, refl))) (fits few) (title_told names place rows before Line knows are begins)))
       where
         begins : begins_with (codes "script") Line ≡ true
         begins = begins_so Line (codes "script") (codes "script") true w script_word.0
 
-        fits : (place.scripts == 64) ≡ false → Within
-        fits few = within_at head.Script h (λ kind over. eqb-false place.scripts 64 few (knows.scripts ∙ over.1))
+        fits : (place.scripts == MOST_SCRIPTS) ≡ false → Within
+        fits few = within_at head.Script h (λ kind over. eqb-false place.scripts MOST_SCRIPTS few (knows.scripts ∙ over.1))
 
     end_told : head_of First ≡ head.End → First ≡ codes "end" → Read (end_line place Line)
     unfolding end_line
@@ -144,23 +145,23 @@ module _ (names : Names) (place : Place) (rows before : List Row) (word : Word) 
     start_told : head_of First ≡ head.Start → First ≡ codes "start" → Read (start_line names place Line)
     unfolding start_line
     start_told h w =
-        tells_choice (place.starts == 64) (Err TooManyStarts) _ _ _ (λ e. by_limit TooManyStarts (inr (inr (refl, has_begun, begins, sym knows.starts ∙ eqb-true place.starts 64 e)))) (λ few.
+        tells_choice (place.starts == MOST_STARTS) (Err TooManyStarts) _ _ _ (λ e. by_limit TooManyStarts (inr (inr (refl, has_begun, begins, sym knows.starts ∙ eqb-true place.starts MOST_STARTS e)))) (λ few.
         tells_choice place.is_open (Err UnknownWord) _ _ _ (λ o. unknown true head.Start o h refl (fits few)) (λ c.
         by_form (start_words names place Line) start_form (inr (inr (inr (inl (has_begun, opened false c, sym first ∙ w, refl))))) (fits few) (start_words_told names place rows before Line knows are begun begins)))
       where
         begins : begins_with (codes "start") Line ≡ true
         begins = begins_so Line (codes "start") (codes "start") true w start_word.2
 
-        fits : (place.starts == 64) ≡ false → Within
-        fits few = within_at head.Start h (λ kind over. eqb-false place.starts 64 few (knows.starts ∙ over.1))
+        fits : (place.starts == MOST_STARTS) ≡ false → Within
+        fits few = within_at head.Start h (λ kind over. eqb-false place.starts MOST_STARTS few (knows.starts ∙ over.1))
 
     says_told : (v : Verb) → head_of First ≡ head.Says v → First ≡ text_of v → Read (statement_line names place v Line)
     unfolding statement_line
     says_told v h w =
         tells_choice place.is_open _ (Err UnknownWord) _ _ (λ o.
-        tells_choice (place.statements == 256) (Err TooManyStatements) _ _ _ (λ e. by_limit TooManyStatements (inr (inl (refl, has_begun, says, opened true o, sym (knows.statements o) ∙ eqb-true place.statements 256 e)))) (λ few.
+        tells_choice (place.statements == MOST_STATEMENTS) (Err TooManyStatements) _ _ _ (λ e. by_limit TooManyStatements (inr (inl (refl, has_begun, says, opened true o, sym (knows.statements o) ∙ eqb-true place.statements MOST_STATEMENTS e)))) (λ few.
         by_form (statement_of names place v Line >>= λ s. Ok (item.Says s)) (form_of v) (inr (inr (inr (inr (v, has_begun, opened true o, sym first ∙ w, refl)))))
-        (within_at (head.Says v) h (λ kind over. eqb-false place.statements 256 few (knows.statements o ∙ over.2)))
+        (within_at (head.Says v) h (λ kind over. eqb-false place.statements MOST_STATEMENTS few (knows.statements o ∙ over.2)))
         (map_told rows before (statement_of names place v Line) (λ s. item.Says s) (form_of v) words (statement_told names place rows before Line knows are begun v w))))
         (λ c. unknown false (head.Says v) c h refl (within_at (head.Says v) h (λ kind over. closed c over.1)))
       where

@@ -6,6 +6,7 @@ use Rattle.script_words.specs.declared.faults.Kind.TheVariants.{BadNumber}
 use Rattle.script_words.specs.Words.{Word, Row}
 use Rattle.script_laws.specs.Grammar.{IsName}
 use Rattle.fault_laws.specs.Slots.{Slot, total, number, node, new_script, any_script, earlier_script, variable, new_start, earlier_start, process, target, wanted, selector, signal_number, signal, action, IsNoName, IsNoTarget, IsNoSignal, Fits, Misfits}
+use Rattle.script_words.specs.declared.limits.TheConstants.{LONGEST_NAME}
 
 -- no number is both above and not above another
 apart : (a b : ℕ) → a < b → b ≤ a → ⊥
@@ -14,7 +15,7 @@ apart a b lt le = omega arith
 -- ---- words that name nothing
 name_not : (word : Word) (kind : Kind) → IsName word → IsNoName word kind → ⊥
 name_not word kind n (inl m) = m.1 n.form
-name_not word kind n (inr m) = apart 16 (length word) m.2 n.few
+name_not word kind n (inr m) = apart LONGEST_NAME (length word) m.2 n.few
 
 target_not : (P : Word → Type 0) (word : Word) (kind : Kind) → P word → IsNoTarget P word kind → ⊥
 target_not P word kind p (inl m) = m.2 p

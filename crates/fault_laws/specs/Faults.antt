@@ -14,6 +14,7 @@ use Rattle.script_words.specs.Words.{Word, Row, word_at}
 use Rattle.script_reader.specs.Files.{begins_with, words_behind, with_said}
 use Rattle.fault_laws.specs.Context.{is_begun, is_open, is_statement, statement_count, script_names, start_names}
 use Rattle.fault_laws.specs.Patterns.{IsWrong}
+use Rattle.unix_calls.specs.declared.limits.TheConstants.{MOST_SCRIPTS, MOST_STATEMENTS, MOST_STARTS, MOST_PROCESSES, MOST_WORK}
 
 -- What is looked at, in this order, where several faults stand at one line.
 pub data Aspect : Type 0 where
@@ -40,9 +41,9 @@ rank idleness = 6
 -- the 65th script, the 257th statement of a script, the 65th start
 abbrev pub PassesLimit : List Row → Row → Kind → Type 0
 PassesLimit before row kind =
-    ((kind ≡ TooManyScripts) × (is_begun before ≡ true) × (begins_with (codes "script") row ≡ true) × (length (script_names before) ≡ 64))
-    ⊎ ((kind ≡ TooManyStatements) × (is_begun before ≡ true) × (is_statement row ≡ true) × (is_open before ≡ true) × (statement_count before ≡ 256))
-    ⊎ ((kind ≡ TooManyStarts) × (is_begun before ≡ true) × (begins_with (codes "start") row ≡ true) × (length (start_names before) ≡ 64))
+    ((kind ≡ TooManyScripts) × (is_begun before ≡ true) × (begins_with (codes "script") row ≡ true) × (length (script_names before) ≡ MOST_SCRIPTS))
+    ⊎ ((kind ≡ TooManyStatements) × (is_begun before ≡ true) × (is_statement row ≡ true) × (is_open before ≡ true) × (statement_count before ≡ MOST_STATEMENTS))
+    ⊎ ((kind ≡ TooManyStarts) × (is_begun before ≡ true) × (begins_with (codes "start") row ≡ true) × (length (start_names before) ≡ MOST_STARTS))
 
 -- a fault of the line that stands behind so many others
 abbrev pub OwnFault : List (List ℕ) → ℕ → Aspect → Kind → Type 0
@@ -85,7 +86,7 @@ started_work works numbers = fold (λ total n. together total (work_of works n))
 
 -- more than 1,024 processes, or more than 4,096 statements
 abbrev pub IsMuch : Work → Type 0
-IsMuch w = (1024 < w.processes) ⊎ (4096 < w.statements)
+IsMuch w = (MOST_PROCESSES < w.processes) ⊎ (MOST_WORK < w.statements)
 
 -- the starts up to and with the line that stands behind so many others make too much work
 pub record Overworks (lines : List (List ℕ)) (k : ℕ) : Type 0 where

@@ -10,6 +10,8 @@ use Rattle.script_words.specs.declared.Kind.TheVariants.{UnknownWord, UnknownScr
 use Rattle.script_words.specs.Words.{Word, Row, begins_with_digit, is_minus_digits}
 use Rattle.script_laws.specs.Grammar.{HasNameForm, IsName, IsForSignal, act_word}
 use Rattle.fault_laws.specs.Context.{nodes_in, script_names, start_names, variable_names, earlier_names}
+use Rattle.unix_calls.specs.declared.limits.TheConstants.{MOST_NODES}
+use Rattle.script_words.specs.declared.limits.TheConstants.{LONGEST_NAME}
 
 pub data Slot : Type 0 where
   -- how many nodes the cluster has
@@ -52,7 +54,7 @@ NamesSignal word = (s : Signal) × (word ≡ word_of s)
 
 -- from 1 to 64
 abbrev pub IsTotal : ℕ → Type 0
-IsTotal n = (1 ≤ n) × (n ≤ 64)
+IsTotal n = (1 ≤ n) × (n ≤ MOST_NODES)
 
 -- ---- which words may stand at a place, by the words of all lines and of those before
 abbrev pub Fits : List Row → List Row → Slot → Word → Type 0
@@ -76,7 +78,7 @@ Fits rows before action word = (act : Act) × (word ≡ act_word act)
 -- ---- what is wrong with a word
 -- it has no name's form, or is too long
 abbrev pub IsNoName : Word → Kind → Type 0
-IsNoName word kind = ((kind ≡ UnknownWord) × ¬ HasNameForm word) ⊎ ((kind ≡ LongName) × HasNameForm word × (16 < length word))
+IsNoName word kind = ((kind ≡ UnknownWord) × ¬ HasNameForm word) ⊎ ((kind ≡ LongName) × HasNameForm word × (LONGEST_NAME < length word))
 
 -- a minus and digits are a bad number, and another word that names nothing is unknown
 abbrev pub IsNoTarget : (Word → Type 0) → Word → Kind → Type 0

@@ -33,6 +33,7 @@ use Rattle.script_laws.proofs.Spelled.{naming_of}
 use Rattle.script_laws.proofs.Rows.{at_place, FitsStart, start_fits, exists_at, rows_spelled}
 use Rattle.script_laws.proofs.Solid.{is_solid, is_solid_row, AreSolid, solid-append, solid_fine, decimal_fine, decimal_solid, rows_words, rows_texts, text_lines}
 use Rattle.script_laws.proofs.Whole.{file_read}
+use Rattle.unix_calls.specs.declared.limits.TheConstants.{MOST_STATEMENTS}
 
 -- ---- how many variables there are
 in_order_few : (n : ℕ) (vs : List ℕ) (total : ℕ) → AreInOrder n vs total → total ≤ n + length vs
@@ -48,7 +49,7 @@ assigned_few : (ss : List Statement) → length (filter_map assigned ss) ≤ len
 assigned_few [] = omega arith
 assigned_few (s ∷ ss) = let h = assigned_few ss in let c = cons_few (assigned s) (filter_map assigned ss) in omega arith
 
-scripts_few : (scs : List Script) → ((j : ℕ) (s : Script) → slice_get scs j ≡ Some s → length s.statements ≤ 256) → length (flat_map assigned_by scs) ≤ 256 * length scs
+scripts_few : (scs : List Script) → ((j : ℕ) (s : Script) → slice_get scs j ≡ Some s → length s.statements ≤ MOST_STATEMENTS) → length (flat_map assigned_by scs) ≤ MOST_STATEMENTS * length scs
 scripts_few [] few = omega arith
 scripts_few (s ∷ scs) few =
     let h = scripts_few scs (λ j x e. few (suc j) x e) in
@@ -158,7 +159,7 @@ module _ (world : World) (w : IsWritable world) where
   body_solid k [] le v a = tt
   body_solid k (s ∷ ss) le v a = (statement_solid k s le (All-head (IsStatement world k) s ss v) (All-head IsWrittenStatement s ss a), body_solid k ss le (All-tail (IsStatement world k) s ss v) (All-tail IsWrittenStatement s ss a))
 
-  scripts_solid : (n : ℕ) (scs : List Script) → ((j : ℕ) (s : Script) → slice_get scs j ≡ Some s → (n + j < length world.scripts) × (length s.statements ≤ 256) × All (IsStatement world (n + j)) s.statements × All IsWrittenStatement s.statements) → AreSolid (scripts_rows n scs)
+  scripts_solid : (n : ℕ) (scs : List Script) → ((j : ℕ) (s : Script) → slice_get scs j ≡ Some s → (n + j < length world.scripts) × (length s.statements ≤ MOST_STATEMENTS) × All (IsStatement world (n + j)) s.statements × All IsWrittenStatement s.statements) → AreSolid (scripts_rows n scs)
   scripts_solid n [] each = tt
   scripts_solid n (s ∷ scs) each =
       let z : n + 0 ≡ n = omega arith in

@@ -12,6 +12,7 @@ use Rattle.text_laws.proofs.Numbers.{IsNumber-decimal, digits_value-decimal}
 use Rattle.script_words.specs.Words.{Word, is_lower, is_digit, is_name_byte, is_number, reserved}
 use Rattle.script_words.proofs.Numbers.{is_number-decides}
 use Rattle.script_laws.specs.Grammar.{IsName, IsCalled, AreNames, IsFor}
+use Rattle.script_words.specs.declared.limits.TheConstants.{LONGEST_NAME}
 
 pub for_decimal : (n : ℕ) → n < 2 ^ 32 → IsFor (decimal n) n
 for_decimal n lt = (IsNumber-decimal n lt, digits_value-decimal n lt)
@@ -50,7 +51,7 @@ letter_name c n l lt = record {
   few = short (IsNumber-decimal n lt).few;
 }
   where
-    short : length (decimal n) ≤ 10 → suc (length (decimal n)) ≤ 16
+    short : length (decimal n) ≤ 10 → suc (length (decimal n)) ≤ LONGEST_NAME
     short le = omega arith
 
 -- a letter and each number from one on

@@ -17,6 +17,7 @@ use Rattle.script_reader.specs.Statements.{text_of, script, statement_of, verb_n
 use Rattle.script_reader.specs.Lines.{head_of, is_numbered, cluster_line, script_line, end_line, statement_line, start_variable, user, joined, start_words, start_line, later_line, read_row, nodes_after, placed_after, place_after}
 use Rattle.script_laws.proofs.Results.{next_ok, then_ok, else_ok, ended_ok}
 use Rattle.script_laws.proofs.Words.{same_words, BeginsSo, head_word}
+use Rattle.unix_calls.specs.declared.limits.TheConstants.{MOST_NODES, MOST_SCRIPTS, MOST_STATEMENTS, MOST_STARTS}
 
 -- the words of a start, read where it stands
 pub record IsStartLine (names : Names) (place : Place) (row : Row) (s : StartLine) : Type 0 where
@@ -32,14 +33,14 @@ pub data Step (names : Names) (place : Place) (row : Row) (i : Item) (now : Plac
   silent : is_skipped row ≡ true → i ≡ item.Nothing → now ≡ place → Step names place row i now
   opens : (n : ℕ) → is_skipped row ≡ false → place.begun ≡ false → word_at row 0 ≡ codes "cluster" → number (word_at row 1) ≡ Ok n → nat_le (length row) 2 ≡ true → 1 ≤ n → n ≤ 64
       → i ≡ item.Nodes n → now ≡ placed_after place n head.Unknown → Step names place row i now
-  begins : is_skipped row ≡ false → place.begun ≡ true → word_at row 0 ≡ codes "script" → (place.scripts == 64) ≡ false → place.is_open ≡ false
+  begins : is_skipped row ≡ false → place.begun ≡ true → word_at row 0 ≡ codes "script" → (place.scripts == MOST_SCRIPTS) ≡ false → place.is_open ≡ false
       → name (word_at row 1) ≡ Ok tt → is_numbered names.scripts (word_at row 1) place.scripts ≡ true → nat_le (length row) 2 ≡ true
       → i ≡ item.ScriptBegins → now ≡ placed_after place place.nodes head.Script → Step names place row i now
   ends : is_skipped row ≡ false → place.begun ≡ true → word_at row 0 ≡ codes "end" → place.is_open ≡ true → nat_le (length row) 1 ≡ true
       → i ≡ item.ScriptEnds → now ≡ placed_after place place.nodes head.End → Step names place row i now
-  says : (v : Verb) (s : Statement) → is_skipped row ≡ false → place.begun ≡ true → word_at row 0 ≡ text_of v → place.is_open ≡ true → (place.statements == 256) ≡ false
+  says : (v : Verb) (s : Statement) → is_skipped row ≡ false → place.begun ≡ true → word_at row 0 ≡ text_of v → place.is_open ≡ true → (place.statements == MOST_STATEMENTS) ≡ false
       → statement_of names place v row ≡ Ok s → i ≡ item.Says s → now ≡ placed_after place place.nodes (head.Says v) → Step names place row i now
-  starts : (s : StartLine) → is_skipped row ≡ false → place.begun ≡ true → word_at row 0 ≡ codes "start" → (place.starts == 64) ≡ false → place.is_open ≡ false
+  starts : (s : StartLine) → is_skipped row ≡ false → place.begun ≡ true → word_at row 0 ≡ codes "start" → (place.starts == MOST_STARTS) ≡ false → place.is_open ≡ false
       → IsStartLine names place row s → i ≡ item.Starts s → now ≡ placed_after place place.nodes head.Start → Step names place row i now
 
 module _ (names : Names) (place : Place) (row : Row) (i : Item) where
@@ -64,16 +65,16 @@ module _ (names : Names) (place : Place) (row : Row) (i : Item) where
       let c = then_ok (is_same (word_at row 0) (codes "cluster")) _ NoClusterLine i e in
       let w : word_at row 0 ≡ codes "cluster" = same_words _ _ c.0 in
       let m = next_ok (number (word_at row 1)) _ i c.1 in
-      let t = then_ok (nat_lt 0 m.0 && nat_le m.0 64) _ TooManyNodes i m.2 in
-      let p = and_parts (nat_lt 0 m.0) (nat_le m.0 64) t.0 in
+      let t = then_ok (nat_lt 0 m.0 && nat_le m.0 MOST_NODES) _ TooManyNodes i m.2 in
+      let p = and_parts (nat_lt 0 m.0) (nat_le m.0 MOST_NODES) t.0 in
       let d = next_ok (ended {A = Unit {0}} row 2 tt) _ i t.1 in
       let is : item.Nodes m.0 ≡ i = cc in
-      opens m.0 skip begun w m.1 ((ended_ok row 2 tt d.0 d.1).0) (ltb-true 0 m.0 p.0) (leb-true m.0 64 p.1) (sym is) (place_now head.Unknown m.0 skip (ap head_of w) (ap (λ z. nodes_after place.nodes (Ok z)) (sym is)))
+      opens m.0 skip begun w m.1 ((ended_ok row 2 tt d.0 d.1).0) (ltb-true 0 m.0 p.0) (leb-true m.0 MOST_NODES p.1) (sym is) (place_now head.Unknown m.0 skip (ap head_of w) (ap (λ z. nodes_after place.nodes (Ok z)) (sym is)))
 
   begins_now : is_skipped row ≡ false → place.begun ≡ true → head_of (word_at row 0) ≡ head.Script → word_at row 0 ≡ codes "script" → script_line names place row ≡ Ok i → Here
   unfolding script_line
   begins_now skip begun h w e =
-      let a = else_ok (place.scripts == 64) _ TooManyScripts i e in
+      let a = else_ok (place.scripts == MOST_SCRIPTS) _ TooManyScripts i e in
       let b = else_ok place.is_open _ UnknownWord i a.1 in
       let n = next_ok (name (word_at row 1)) _ i b.1 in
       let t = then_ok (is_numbered names.scripts (word_at row 1) place.scripts) _ DoubleName i n.2 in
@@ -93,18 +94,18 @@ module _ (names : Names) (place : Place) (row : Row) (i : Item) where
   unfolding statement_line
   says_now v skip begun h w e =
       let a = then_ok place.is_open _ UnknownWord i e in
-      let b = else_ok (place.statements == 256) _ TooManyStatements i a.1 in
+      let b = else_ok (place.statements == MOST_STATEMENTS) _ TooManyStatements i a.1 in
       let s = next_ok (statement_of names place v row) _ i b.1 in
       let is : item.Says s.0 ≡ i = cc in
       says v s.0 skip begun w a.0 b.0 s.1 (sym is) (place_now (head.Says v) place.nodes skip h (ap (λ z. nodes_after place.nodes (Ok z)) (sym is)))
 
-  started_now : (s : StartLine) → is_skipped row ≡ false → place.begun ≡ true → head_of (word_at row 0) ≡ head.Start → word_at row 0 ≡ codes "start" → (place.starts == 64) ≡ false → place.is_open ≡ false → IsStartLine names place row s → i ≡ item.Starts s → Here
+  started_now : (s : StartLine) → is_skipped row ≡ false → place.begun ≡ true → head_of (word_at row 0) ≡ head.Start → word_at row 0 ≡ codes "start" → (place.starts == MOST_STARTS) ≡ false → place.is_open ≡ false → IsStartLine names place row s → i ≡ item.Starts s → Here
   started_now s skip begun h w few closed l is = starts s skip begun w few closed l is (place_now head.Start place.nodes skip h (ap (λ z. nodes_after place.nodes (Ok z)) is))
 
   starts_now : is_skipped row ≡ false → place.begun ≡ true → head_of (word_at row 0) ≡ head.Start → word_at row 0 ≡ codes "start" → start_line names place row ≡ Ok i → Here
   unfolding start_line start_words
   starts_now skip begun h w e =
-      let a = else_ok (place.starts == 64) _ TooManyStarts i e in
+      let a = else_ok (place.starts == MOST_STARTS) _ TooManyStarts i e in
       let b = else_ok place.is_open _ UnknownWord i a.1 in
       let site = next_ok (node place.nodes (word_at row 1)) _ i b.1 in
       let runs = next_ok (script names.scripts (word_at row 2)) _ i site.2 in

@@ -22,6 +22,7 @@ use Rattle.list_laws.proofs.Filters.{and_false}
 use Rattle.script_laws.specs.Writable.{IsTarget}
 use Rattle.script_laws.specs.Grammar.{HasNameForm, change_words, act_word, IsName, Naming, IsCalled, IsFor, IsArg, Targets, Wants, Selects, IsForSignal, IsForSignalNumber, AreForSet}
 use Rattle.script_laws.proofs.Words.{same_words}
+use Rattle.script_words.specs.declared.limits.TheConstants.{LONGEST_NAME}
 
 -- ---- words that differ
 pub not_same : (a b : Word) → (a ≡ b → ⊥) → is_same a b ≡ false
@@ -49,7 +50,7 @@ name_form word n = rw (n.is, n.lower, n.each) refl
 
 pub name_read : (word : Word) → IsName word → name word ≡ Ok tt
 unfolding name is_reserved
-name_read word n = rw (name_form word n.form, none_of word reserved n.form.free, le-leb (length word) 16 n.few) refl
+name_read word n = rw (name_form word n.form, none_of word reserved n.form.free, le-leb (length word) LONGEST_NAME n.few) refl
 
 -- a name is no word that begins otherwise
 pub name_first : (word : Word) (b : ℕ) (bs : Word) → IsName word → is_lower b ≡ false → word ≡ b ∷ bs → ⊥

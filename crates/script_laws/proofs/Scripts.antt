@@ -18,6 +18,7 @@ use Rattle.script_laws.proofs.Statements.{AreVariables, IsRead, statement_fits}
 use Rattle.script_laws.proofs.Words.{skipped_script, begins_so, verb_script, script_word}
 use Rattle.script_laws.proofs.Lines.{Step, silent, opens, begins, ends, says, starts}
 use Rattle.script_laws.proofs.Walks.{Walk, nodes_stay}
+use Rattle.unix_calls.specs.declared.limits.TheConstants.{MOST_SCRIPTS, MOST_STATEMENTS}
 
 -- whether a line begins a script
 abbrev pub is_beginning : Item → Bool
@@ -41,7 +42,7 @@ pub scripts_are : (t : Told) (rest : List Told) (b : Bool) → begins_with (code
 unfolding scripts_of
 scripts_are t rest b e = rw e refl
 
-below_256 : (n : ℕ) → n ≤ 256 → (n ≡ 256 → ⊥) → n < 256
+below_256 : (n : ℕ) → n ≤ MOST_STATEMENTS → (n ≡ MOST_STATEMENTS → ⊥) → n < MOST_STATEMENTS
 below_256 n le ne = omega arith
 
 below_64 : (n : ℕ) → n ≤ 64 → (n ≡ 64 → ⊥) → n < 64
@@ -75,44 +76,44 @@ module _ (names : Names) (world : World) (variables : AreVariables names.variabl
       (said_fits place t.0 w.0 (place_after place t.0 t.1) (body rest) w.2 (nodes_here place (t ∷ rest) w total) later)
 
   -- ---- how many
-  counted : (place : Place) (row : Row) (i : Item) (now : Place) (later : List Statement) → Step names place row i now → place.statements ≤ 256 → (now.statements ≤ 256 → length later + now.statements ≤ 256)
-      → length (cond (is_beginning i) [] (with_said (said (Ok i)) later)) + place.statements ≤ 256
-  counted place row i now later (silent k e n) few more = rw e (subst (λ p. p.statements ≤ 256 → length later + p.statements ≤ 256) n more few)
-  counted place row i now later (opens m k b w nu l lo hi e n) few more = rw e (subst (λ p. p.statements ≤ 256 → length later + p.statements ≤ 256) n more few)
+  counted : (place : Place) (row : Row) (i : Item) (now : Place) (later : List Statement) → Step names place row i now → place.statements ≤ MOST_STATEMENTS → (now.statements ≤ MOST_STATEMENTS → length later + now.statements ≤ MOST_STATEMENTS)
+      → length (cond (is_beginning i) [] (with_said (said (Ok i)) later)) + place.statements ≤ MOST_STATEMENTS
+  counted place row i now later (silent k e n) few more = rw e (subst (λ p. p.statements ≤ MOST_STATEMENTS → length later + p.statements ≤ MOST_STATEMENTS) n more few)
+  counted place row i now later (opens m k b w nu l lo hi e n) few more = rw e (subst (λ p. p.statements ≤ MOST_STATEMENTS → length later + p.statements ≤ MOST_STATEMENTS) n more few)
   counted place row i now later (begins k b w a o nm d l e n) few more = rw e (omega arith)
-  counted place row i now later (ends k b w o l e n) few more = rw e (subst (λ p. p.statements ≤ 256 → length later + p.statements ≤ 256) n more few)
+  counted place row i now later (ends k b w o l e n) few more = rw e (subst (λ p. p.statements ≤ MOST_STATEMENTS → length later + p.statements ≤ MOST_STATEMENTS) n more few)
   counted place row i now later (says v s k b w o c st e n) few more =
       let is : now.statements ≡ place.statements + 1 = ap (λ p. p.statements) n ∙ ap (λ x. cond x (place.statements + 1) place.statements) o in
-      let lt : place.statements < 256 = below_256 place.statements few (eqb-false _ _ c) in
-      let h : length later + now.statements ≤ 256 = more (omega arith) in
+      let lt : place.statements < MOST_STATEMENTS = below_256 place.statements few (eqb-false _ _ c) in
+      let h : length later + now.statements ≤ MOST_STATEMENTS = more (omega arith) in
       rw e (omega arith)
-  counted place row i now later (starts s k b w c o st e n) few more = rw e (subst (λ p. p.statements ≤ 256 → length later + p.statements ≤ 256) n more few)
+  counted place row i now later (starts s k b w c o st e n) few more = rw e (subst (λ p. p.statements ≤ MOST_STATEMENTS → length later + p.statements ≤ MOST_STATEMENTS) n more few)
 
-  pub body_short : (place : Place) (told : List Told) → Walk names place told → place.statements ≤ 256 → length (body told) + place.statements ≤ 256
+  pub body_short : (place : Place) (told : List Told) → Walk names place told → place.statements ≤ MOST_STATEMENTS → length (body told) + place.statements ≤ MOST_STATEMENTS
   unfolding body
   body_short place [] w few = omega arith
   body_short place (t ∷ rest) w few =
-      subst (λ (b : List Statement). length b + place.statements ≤ 256) (sym (body_is t rest w.0 w.1 (script_marked names place t.0 w.0 (place_after place t.0 t.1) w.2)))
+      subst (λ (b : List Statement). length b + place.statements ≤ MOST_STATEMENTS) (sym (body_is t rest w.0 w.1 (script_marked names place t.0 w.0 (place_after place t.0 t.1) w.2)))
       (counted place t.0 w.0 (place_after place t.0 t.1) (body rest) w.2 few (body_short (place_after place t.0 t.1) rest w.3))
 
   -- ---- scripts
   -- at most 256 statements of the k-th script
   abbrev pub IsReadScript : ℕ → Script → Type 0
-  IsReadScript k script = (length script.statements ≤ 256) × All (IsRead world k) script.statements
+  IsReadScript k script = (length script.statements ≤ MOST_STATEMENTS) × All (IsRead world k) script.statements
 
   -- each script, numbered on from a number
   abbrev pub AreReadScripts : ℕ → List Script → Type 0
   AreReadScripts k [] = Unit {0}
   AreReadScripts k (script ∷ scripts) = IsReadScript k script × AreReadScripts (k + 1) scripts
 
-  begun_scripts : (place : Place) (row : Row) (i : Item) (now : Place) (rest : List Told) → Step names place row i now → All (Read now) (body rest) → (now.statements ≤ 256 → length (body rest) + now.statements ≤ 256) → AreReadScripts now.scripts (scripts_of rest)
+  begun_scripts : (place : Place) (row : Row) (i : Item) (now : Place) (rest : List Told) → Step names place row i now → All (Read now) (body rest) → (now.statements ≤ MOST_STATEMENTS → length (body rest) + now.statements ≤ MOST_STATEMENTS) → AreReadScripts now.scripts (scripts_of rest)
       → AreReadScripts place.scripts (cond (is_beginning i) (record { statements = body rest } ∷ scripts_of rest) (scripts_of rest))
   begun_scripts place row i now rest (silent k e n) all few later = rw e (subst (λ p. AreReadScripts p.scripts (scripts_of rest)) n later)
   begun_scripts place row i now rest (opens m k b w nu l lo hi e n) all few later = rw e (subst (λ p. AreReadScripts p.scripts (scripts_of rest)) n later)
   begun_scripts place row i now rest (begins k b w a o nm d l e n) all few later =
       let z : now.statements ≡ 0 = ap (λ p. p.statements) n in
       let s : now.scripts ≡ place.scripts + 1 = ap (λ p. p.scripts) n in
-      let short : length (body rest) + now.statements ≤ 256 = few (omega arith) in
+      let short : length (body rest) + now.statements ≤ MOST_STATEMENTS = few (omega arith) in
       let is : now.scripts - 1 ≡ place.scripts = omega arith in
       rw e ((omega arith, subst (λ j. All (IsRead world j) (body rest)) is all), subst (λ p. AreReadScripts p.scripts (scripts_of rest)) n later)
   begun_scripts place row i now rest (ends k b w o l e n) all few later = rw e (subst (λ p. AreReadScripts p.scripts (scripts_of rest)) n later)
@@ -132,7 +133,7 @@ module _ (names : Names) (world : World) (variables : AreVariables names.variabl
   at_scripts k (s ∷ ss) zero script all e = let is : s ≡ script = cc in let z : k ≡ k + 0 = omega arith in subst (λ m. IsReadScript m script) z (subst (IsReadScript k) is all.0)
   at_scripts k (s ∷ ss) (suc j) script all e = let z : (k + 1) + j ≡ k + suc j = omega arith in subst (λ m. IsReadScript m script) z (at_scripts (k + 1) ss j script all.1 e)
 
-pub fewer : (names : Names) (place : Place) (row : Row) (i : Item) (now : Place) → Step names place row i now → place.scripts ≤ 64 → (now.scripts ≤ 64) × (now.scripts ≡ cond (is_beginning i) (place.scripts + 1) place.scripts)
+pub fewer : (names : Names) (place : Place) (row : Row) (i : Item) (now : Place) → Step names place row i now → place.scripts ≤ MOST_SCRIPTS → (now.scripts ≤ MOST_SCRIPTS) × (now.scripts ≡ cond (is_beginning i) (place.scripts + 1) place.scripts)
 fewer names place row i now (silent k e n) few = rw (e, n) (few, refl)
 fewer names place row i now (opens m k b w nu l lo hi e n) few = rw (e, n) (few, refl)
 fewer names place row i now (begins k b w a o nm d l e n) few = let lt = below_64 place.scripts few (eqb-false _ _ a) in rw (e, n) (omega arith, refl)
@@ -140,16 +141,16 @@ fewer names place row i now (ends k b w o l e n) few = rw (e, n) (few, refl)
 fewer names place row i now (says v s k b w o c st e n) few = rw (e, n) (few, refl)
 fewer names place row i now (starts s k b w c o st e n) few = rw (e, n) (few, refl)
 
-pub scripts_few : (names : Names) (place : Place) (told : List Told) → Walk names place told → place.scripts ≤ 64 → place.scripts + length (scripts_of told) ≤ 64
+pub scripts_few : (names : Names) (place : Place) (told : List Told) → Walk names place told → place.scripts ≤ MOST_SCRIPTS → place.scripts + length (scripts_of told) ≤ MOST_SCRIPTS
 unfolding scripts_of
 scripts_few names place [] w few = omega arith
 scripts_few names place (t ∷ rest) w few =
     let f = fewer names place t.0 w.0 (place_after place t.0 t.1) w.2 few in
     let later = scripts_few names (place_after place t.0 t.1) rest w.3 f.0 in
-    subst (λ (s : List Script). place.scripts + length s ≤ 64) (sym (scripts_are t rest (is_beginning w.0) (script_marked names place t.0 w.0 (place_after place t.0 t.1) w.2)))
+    subst (λ (s : List Script). place.scripts + length s ≤ MOST_SCRIPTS) (sym (scripts_are t rest (is_beginning w.0) (script_marked names place t.0 w.0 (place_after place t.0 t.1) w.2)))
     (go (is_beginning w.0) f.1 later)
   where
-    go : (b : Bool) → (place_after place t.0 t.1).scripts ≡ cond b (place.scripts + 1) place.scripts → (place_after place t.0 t.1).scripts + length (scripts_of rest) ≤ 64
-        → place.scripts + length (cond b (record { statements = body rest } ∷ scripts_of rest) (scripts_of rest)) ≤ 64
+    go : (b : Bool) → (place_after place t.0 t.1).scripts ≡ cond b (place.scripts + 1) place.scripts → (place_after place t.0 t.1).scripts + length (scripts_of rest) ≤ MOST_SCRIPTS
+        → place.scripts + length (cond b (record { statements = body rest } ∷ scripts_of rest) (scripts_of rest)) ≤ MOST_SCRIPTS
     go true s h = omega arith
     go false s h = omega arith

@@ -25,6 +25,7 @@ use Rattle.script_laws.proofs.Reading.{not_equal, name_read}
 use Rattle.script_laws.proofs.Spoken.{verb_of, HasNaming, HasStarts, statement_read, first_word, start_read, line_of}
 use Rattle.script_laws.proofs.Heads.{verb_head, script_head, start_head, end_head, row_read, row_place, verb_some}
 use Rattle.script_laws.proofs.Told.{row_tells, row_told, Means, more, little_first, statements_of, Stands}
+use Rattle.unix_calls.specs.declared.limits.TheConstants.{MOST_SCRIPTS, MOST_STATEMENTS, MOST_STARTS}
 
 first_is : (word : Word) (row : Row) → word_at (word ∷ row) 0 ≡ word
 unfolding word_at
@@ -43,11 +44,11 @@ module _ (names : Names) (naming : Naming) (world : World) (has : HasNaming name
   Sense place rows open' scs earlier = Means (works world.scripts) place (row_tells names place rows) (statements_of open') scs earlier world.starts
 
   -- ---- a script's first line
-  script_said : (place : Place) (name : Word) → place.begun ≡ true → place.is_open ≡ false → IsCalled naming.scripts name place.scripts → place.scripts < 64 → read_row names place (codes "script" ∷ name ∷ []) ≡ Ok item.ScriptBegins
+  script_said : (place : Place) (name : Word) → place.begun ≡ true → place.is_open ≡ false → IsCalled naming.scripts name place.scripts → place.scripts < MOST_SCRIPTS → read_row names place (codes "script" ∷ name ∷ []) ≡ Ok item.ScriptBegins
   unfolding later_line script_line word_at is_numbered ended
   script_said place name b o c lt =
       row_read names place (codes "script" ∷ name ∷ []) (codes "script") head.Script refl (λ e. cc) script_head b
-      ∙ rw (not_equal place.scripts 64 (below place.scripts lt), o, name_read name (has.scripts.name name place.scripts c), has.scripts.each name place.scripts c, same_number place.scripts) refl
+      ∙ rw (not_equal place.scripts MOST_SCRIPTS (below place.scripts lt), o, name_read name (has.scripts.name name place.scripts c), has.scripts.each name place.scripts c, same_number place.scripts) refl
     where
       below : (n : ℕ) → n < 64 → n ≡ 64 → ⊥
       below n lt e = omega arith
@@ -56,21 +57,21 @@ module _ (names : Names) (naming : Naming) (world : World) (has : HasNaming name
   unfolding later_line end_line word_at ended
   end_said place b o = row_read names place (codes "end" ∷ []) (codes "end") head.End refl (λ e. cc) end_head b ∙ rw o refl
 
-  statement_said : (place : Place) (row : Row) (s : Statement) → place.begun ≡ true → place.is_open ≡ true → place.nodes ≡ world.nodes → place.statements < 256 → Spells naming row s → IsStatement world (place.scripts - 1) s → read_row names place row ≡ Ok (item.Says s)
+  statement_said : (place : Place) (row : Row) (s : Statement) → place.begun ≡ true → place.is_open ≡ true → place.nodes ≡ world.nodes → place.statements < MOST_STATEMENTS → Spells naming row s → IsStatement world (place.scripts - 1) s → read_row names place row ≡ Ok (item.Says s)
   unfolding later_line statement_line
   statement_said place row s b o n lt h v =
       row_read names place row (text_of (verb_of s)) (head.Says (verb_of s)) (first_word naming row s h) (verb_some (verb_of s)) (verb_head (verb_of s)) b
-      ∙ rw (statement_read names naming has place world n row s h v, o, not_equal place.statements 256 (below place.statements lt)) refl
+      ∙ rw (statement_read names naming has place world n row s h v, o, not_equal place.statements MOST_STATEMENTS (below place.statements lt)) refl
     where
-      below : (n : ℕ) → n < 256 → n ≡ 256 → ⊥
+      below : (n : ℕ) → n < MOST_STATEMENTS → n ≡ MOST_STATEMENTS → ⊥
       below n lt e = omega arith
 
-  start_said : (place : Place) (row : Row) (s : Start) (earlier : List Start) → place.begun ≡ true → place.is_open ≡ false → place.nodes ≡ world.nodes → place.starts < 64 → length earlier ≡ place.starts → SpellsStart naming world.starts row s → slice_get world.starts place.starts ≡ Some s
+  start_said : (place : Place) (row : Row) (s : Start) (earlier : List Start) → place.begun ≡ true → place.is_open ≡ false → place.nodes ≡ world.nodes → place.starts < MOST_STARTS → length earlier ≡ place.starts → SpellsStart naming world.starts row s → slice_get world.starts place.starts ≡ Some s
       → IsStart world earlier s → read_row names place row ≡ Ok (item.Starts (line_of names naming has world.starts known place s))
   unfolding later_line start_line word_at
   start_said place row s earlier b o n lt c h e v =
       row_read names place row (codes "start") head.Start (ap (λ (r : Row). word_at r 0) h.is) (λ e. cc) start_head b
-      ∙ rw (start_read names naming has world.starts known place row s h e (subst (λ m. s.node.0 < m) (sym n) v.node) (subst (λ m. IfSome s.joined (λ j. j < m)) c v.joined), not_equal place.starts 64 (below place.starts lt), o) refl
+      ∙ rw (start_read names naming has world.starts known place row s h e (subst (λ m. s.node.0 < m) (sym n) v.node) (subst (λ m. IfSome s.joined (λ j. j < m)) c v.joined), not_equal place.starts MOST_STARTS (below place.starts lt), o) refl
     where
       below : (n : ℕ) → n < 64 → n ≡ 64 → ⊥
       below n lt e = omega arith
@@ -148,7 +149,7 @@ module _ (names : Names) (naming : Naming) (world : World) (has : HasNaming name
       let p = row_place place (codes "script" ∷ name ∷ []) (codes "script") head.Script item.ScriptBegins refl (λ e. cc) script_head in
       let next : (j : ℕ) → place.scripts + suc j ≡ place.scripts + 1 + j = λ j. omega arith in
       let back : place.scripts ≡ place.scripts + 1 - 1 = omega arith in
-      let few : 0 + length script.statements ≤ 256 = omega (arith, v.0) in
+      let few : 0 + length script.statements ≤ MOST_STATEMENTS = omega (arith, v.0) in
       let m : Sense (placed_after place place.nodes head.Script) rows (Some script.statements) scs earlier = ih (placed_after place place.nodes head.Script) earlier (record {
         begun = refl;
         nodes = st.nodes;
@@ -175,7 +176,7 @@ module _ (names : Names) (naming : Naming) (world : World) (has : HasNaming name
 
   statement_case : (words : List Word) (scs : List Script) (later : List Start) (rows : List Row) (ss : List Statement) (s : Statement) (row : Row) → Spells naming row s → Later (Some ss) words scs later rows → Later (Some (s ∷ ss)) words scs later (row ∷ rows)
   statement_case words scs later rows ss s row h ih place earlier st =
-      let lt : place.statements < 256 = room (length ss) place.statements st.fits.1 in
+      let lt : place.statements < MOST_STATEMENTS = room (length ss) place.statements st.fits.1 in
       let r = statement_said place row s st.begun st.is_open st.nodes lt h (All-head (IsStatement world (place.scripts - 1)) s ss st.fits.0) in
       let p = row_place place row (text_of (verb_of s)) (head.Says (verb_of s)) (item.Says s) (first_word naming row s h) (verb_some (verb_of s)) (verb_head (verb_of s)) in
       let n : (placed_after place place.nodes (head.Says (verb_of s))).statements ≡ place.statements + 1 = ap (λ (b : Bool). cond b (place.statements + 1) place.statements) st.is_open in
@@ -193,10 +194,10 @@ module _ (names : Names) (naming : Naming) (world : World) (has : HasNaming name
       (more (works world.scripts) place row (item.Says s) (placed_after place place.nodes (head.Says (verb_of s))) (row_tells names (placed_after place place.nodes (head.Says (verb_of s))) rows) ss scs earlier world.starts p refl
       (begins_so row (codes "script") (text_of (verb_of s)) false (first_word naming row s h) (verb_script (verb_of s))) tt m)
     where
-      room : (l n : ℕ) → n + suc l ≤ 256 → n < 256
+      room : (l n : ℕ) → n + suc l ≤ MOST_STATEMENTS → n < MOST_STATEMENTS
       room l n e = omega arith
 
-      fewer : (l n m : ℕ) → m ≡ n + 1 → n + suc l ≤ 256 → m + l ≤ 256
+      fewer : (l n m : ℕ) → m ≡ n + 1 → n + suc l ≤ MOST_STATEMENTS → m + l ≤ MOST_STATEMENTS
       fewer l n m a b = omega arith
 
   pub read_lines : (open' : Option (List Statement)) (words : List Word) (scs : List Script) (later : List Start) (rows : List Row) → Lines naming world.starts open' words scs later rows → Later open' words scs later rows

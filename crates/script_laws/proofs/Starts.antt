@@ -26,6 +26,7 @@ use Rattle.script_laws.proofs.Statements.{IsSmall, number_fits, node_fits}
 use Rattle.script_laws.proofs.Tables.{AreBelow, IsListed}
 use Rattle.script_laws.proofs.Lines.{IsStartLine, Step, silent, opens, begins, ends, says, starts}
 use Rattle.script_laws.proofs.Walks.{starts_now, IsLittle, judged_next, Walk, nodes_stay}
+use Rattle.unix_calls.specs.declared.limits.TheConstants.{MOST_STARTS, MOST_PROCESSES, MOST_WORK}
 
 -- ---- words
 pub numbered_here : (t : Table) (word : Word) (at : ℕ) → is_numbered t word at ≡ true → number_in t word ≡ Some at
@@ -106,7 +107,7 @@ module _ (names : Names) (world : World) (works : List Work) (variables : IsList
   -- the starts so far
   pub record AreStarted (earlier : List Start) (place : Place) : Type 0 where
     pub count : length earlier ≡ place.starts
-    pub few : place.starts ≤ 64
+    pub few : place.starts ≤ MOST_STARTS
     pub each : EachAt (λ k. IsStart world (take k earlier)) earlier
     pub named : EachAt IsNamed earlier
     pub users : All (λ s. IsSmall s.uid) earlier
@@ -137,9 +138,9 @@ module _ (names : Names) (world : World) (works : List Work) (variables : IsList
       }
 
   little : (w : Work) → is_little w ≡ true → IsLittleWork w
-  little w e = let p = and_parts (nat_le w.processes 1024) (nat_le w.statements 4096) e in (leb-true _ _ p.0, leb-true _ _ p.1)
+  little w e = let p = and_parts (nat_le w.processes MOST_PROCESSES) (nat_le w.statements MOST_WORK) e in (leb-true _ _ p.0, leb-true _ _ p.1)
 
-  one_more : (earlier : List Start) (place : Place) (row : Row) (s : StartLine) (now : Place) → AreStarted earlier place → place.nodes ≡ world.nodes → IsStartLine names place row s → (place.starts == 64) ≡ false → now.starts ≡ place.starts + 1
+  one_more : (earlier : List Start) (place : Place) (row : Row) (s : StartLine) (now : Place) → AreStarted earlier place → place.nodes ≡ world.nodes → IsStartLine names place row s → (place.starts == MOST_STARTS) ≡ false → now.starts ≡ place.starts + 1
       → is_little (total_work works (with_start earlier s)) ≡ true → AreStarted (with_start earlier s) now
   unfolding start_of
   one_more earlier place row s now a nodes l room is e =
@@ -159,7 +160,7 @@ module _ (names : Names) (world : World) (works : List Work) (variables : IsList
         work = little (total_work works (with_start earlier s)) e;
       }
     where
-      fits : (place.starts ≡ 64 → ⊥) → place.starts ≤ 64 → now.starts ≤ 64
+      fits : (place.starts ≡ MOST_STARTS → ⊥) → place.starts ≤ MOST_STARTS → now.starts ≤ MOST_STARTS
       fits ne le = omega arith
 
   still : (earlier : List Start) (place now : Place) → now.starts ≡ place.starts → AreStarted earlier place → AreStarted earlier now

@@ -22,6 +22,7 @@ use Rattle.script_reader.specs.Files.{begins_with, Told, tells, place_behind, sa
 use Rattle.script_laws.specs.Grammar.{Naming, IsCalled}
 use Rattle.script_laws.proofs.Walks.{starts_now, IsLittle}
 use Rattle.script_laws.proofs.Scripts.{is_beginning, body_is, scripts_are}
+use Rattle.unix_calls.specs.declared.limits.TheConstants.{MOST_STATEMENTS, MOST_PROCESSES, MOST_WORK}
 
 -- ---- rows in the place of lines
 abbrev pub row_tells : Names → Place → List Row → List Told
@@ -88,7 +89,7 @@ less_at_first ws w (y ∷ ys) l = less_before w (work_of ws y.script) (less_at_f
 pub little_first : (ws : List Work) (xs ys : List Start) → IsLittleWork (total_work ws (xs ++ ys)) → is_little (total_work ws xs) ≡ true
 little_first ws xs ys l =
     let m = less_at_first ws (total_work ws xs) ys (subst IsLittleWork (fold_together ws (work 0 0) xs ys) l) in
-    rw (le-leb (total_work ws xs).processes 1024 m.0, le-leb (total_work ws xs).statements 4096 m.1) refl
+    rw (le-leb (total_work ws xs).processes MOST_PROCESSES m.0, le-leb (total_work ws xs).statements MOST_WORK m.1) refl
 
 -- ---- where lines stand
 -- the statements of the open script
@@ -99,7 +100,7 @@ statements_of (Some ss) = ss
 -- what a script may still say where it is open
 abbrev pub Fits : World → Place → Option (List Statement) → Type 0
 Fits world place None = Unit {0}
-Fits world place (Some ss) = All (IsStatement world (place.scripts - 1)) ss × (place.statements + length ss ≤ 256)
+Fits world place (Some ss) = All (IsStatement world (place.scripts - 1)) ss × (place.statements + length ss ≤ MOST_STATEMENTS)
 
 pub record Stands (naming : Naming) (world : World) (place : Place) (open' : Option (List Statement)) (words : List Word) (scs : List Script) (later earlier : List Start) : Type 0 where
   pub begun : place.begun ≡ true

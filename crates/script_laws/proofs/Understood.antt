@@ -22,6 +22,7 @@ use Rattle.script_laws.specs.Writable.{IsTarget}
 use Rattle.script_laws.specs.Grammar.{act_word, IsName, Naming, IsCalled, IsFor, IsArg, Targets, Wants, Selects, IsForSignal, IsForSignalNumber, AreForSet}
 use Rattle.script_laws.proofs.Results.{Gives, next, choice, gives, fails, found_there, weaker, anything, then_ok}
 use Rattle.script_laws.proofs.Words.{same_words, words_same}
+use Rattle.script_words.specs.declared.limits.TheConstants.{LONGEST_NAME}
 
 -- ---- names
 none_any : (word : Word) (rs : List Word) → list_any (is_same word) rs ≡ false → All (λ r. word ≡ r → ⊥) rs
@@ -41,10 +42,10 @@ pub name_understood : (word : Word) (u : Unit {0}) → name word ≡ Ok u → Is
 unfolding name has_name_form is_reserved
 name_understood [] u e = cc
 name_understood (b ∷ bs) u e =
-    let a = then_ok (has_name_form (b ∷ bs) && not (is_reserved (b ∷ bs))) (cond (nat_le (length (b ∷ bs)) 16) (Ok tt) (Err LongName)) UnknownWord u e in
+    let a = then_ok (has_name_form (b ∷ bs) && not (is_reserved (b ∷ bs))) (cond (nat_le (length (b ∷ bs)) LONGEST_NAME) (Ok tt) (Err LongName)) UnknownWord u e in
     let f = and_parts (has_name_form (b ∷ bs)) (not (is_reserved (b ∷ bs))) a.0 in
     let l = and_parts (is_lower b) (list_all is_name_byte (b ∷ bs)) f.0 in
-    let few = then_ok (nat_le (length (b ∷ bs)) 16) (Ok tt) LongName u a.1 in
+    let few = then_ok (nat_le (length (b ∷ bs)) LONGEST_NAME) (Ok tt) LongName u a.1 in
     record {
       form = record {
         letter = b;
@@ -54,7 +55,7 @@ name_understood (b ∷ bs) u e =
         each = (and_parts (is_name_byte b) (list_all is_name_byte bs) l.1).1;
         free = none_any (b ∷ bs) reserved (no_true (list_any (is_same (b ∷ bs)) reserved) f.1);
       };
-      few = leb-true (length (b ∷ bs)) 16 few.0;
+      few = leb-true (length (b ∷ bs)) LONGEST_NAME few.0;
     }
 
 -- ---- numbers

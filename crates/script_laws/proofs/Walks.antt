@@ -17,6 +17,7 @@ use Rattle.script_reader.specs.Lines.{read_row, read_line, place_after}
 use Rattle.script_reader.specs.Files.{Told, tells, place_behind, with_start, is_little, fault_at, judged}
 use Rattle.script_laws.proofs.Results.{then_ok}
 use Rattle.script_laws.proofs.Lines.{Step, silent, opens, begins, ends, says, starts, step}
+use Rattle.unix_calls.specs.declared.limits.TheConstants.{MOST_NODES}
 
 -- ---- lines that were judged
 abbrev pub AllRead : List Told → Type 0
@@ -95,7 +96,7 @@ nodes_stay names place (t ∷ rest) w b =
     (l.0 ∙ s.0, l.1)
 
 abbrev pub IsCluster : ℕ → Type 0
-IsCluster n = (1 ≤ n) × (n ≤ 64)
+IsCluster n = (1 ≤ n) × (n ≤ MOST_NODES)
 
 first_step : (names : Names) (place : Place) (row : Row) (i : Item) (now : Place) → Step names place row i now → place.begun ≡ false → now.begun ≡ true → IsCluster now.nodes
 first_step names place row i now (silent k e n) b b'' = let h : place.begun ≡ true = ap (λ p. p.begun) (sym n) ∙ b'' in cc

@@ -25,6 +25,7 @@ use Rattle.script_laws.proofs.Told.{row_tells, tells_rows, row_told, Means, judg
 use Rattle.script_laws.proofs.Sense.{skip_read, read_lines}
 use Rattle.script_laws.proofs.Named.{part_names}
 use Rattle.script_laws.proofs.Numbering.{has_naming, has_starts, vars_counted}
+use Rattle.unix_calls.specs.declared.limits.TheConstants.{MOST_NODES}
 
 -- what the lines of a whole part mean
 record IsMeant (world : World) (told : List Told) : Type 0 where
@@ -38,7 +39,7 @@ record IsMeant (world : World) (told : List Told) : Type 0 where
 module _ (names : Names) (naming : Naming) (world : World) (has : HasNaming names naming) (known : HasStarts names naming world.starts) (valid : IsValid world) where
   cluster_said : (word : Word) → IsFor word world.nodes → read_row names first_place (codes "cluster" ∷ word ∷ []) ≡ Ok (item.Nodes world.nodes)
   unfolding read_row cluster_line is_skipped word_at is_same ended
-  cluster_said word n = rw (number_read word world.nodes n, lt-ltb 0 world.nodes valid.limits.some_node, le-leb world.nodes 64 valid.limits.nodes) refl
+  cluster_said word n = rw (number_read word world.nodes n, lt-ltb 0 world.nodes valid.limits.some_node, le-leb world.nodes MOST_NODES valid.limits.nodes) refl
 
   silent_case : (row : Row) (rows : List Row) → is_skipped row ≡ true → IsMeant world (row_tells names first_place rows) → IsMeant world (row_tells names first_place (row ∷ rows))
   unfolding place_behind

@@ -20,6 +20,7 @@ use Rattle.unix_calls.specs.declared.World.{World}
 use Rattle.unix_calls.specs.Valid.{IsValid}
 use Rattle.script_words.specs.Words.{Word, Row, is_lower, is_name_byte, reserved, is_skipped}
 use Rattle.script_laws.specs.Writable.{IsTarget, AreInOrder, variables_of}
+use Rattle.script_words.specs.declared.limits.TheConstants.{LONGEST_NAME}
 
 -- a lower-case letter and then lower-case letters and digits, and no word with a meaning of its own
 pub record HasNameForm (word : Word) : Type 0 where
@@ -33,7 +34,7 @@ pub record HasNameForm (word : Word) : Type 0 where
 -- such a word of 1 to 16 bytes
 pub record IsName (word : Word) : Type 0 where
   pub form : HasNameForm word
-  pub few : length word ≤ 16
+  pub few : length word ≤ LONGEST_NAME
 
 -- the names of a part, each at the place of its number
 pub record Naming : Type 0 where

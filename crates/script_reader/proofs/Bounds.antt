@@ -18,10 +18,11 @@ use Rattle.script_reader.specs.Starts.{HasNode}
 use Rattle.script_words.specs.Words.{Word, Row, ◌>>=◌, is_same, word_at, name, number, ended, node, is_skipped}
 use Rattle.script_reader.specs.Statements.{script, statement_of}
 use Rattle.script_reader.specs.Lines.{is_numbered, head_of, start_variable, user, joined, cluster_line, script_line, end_line, statement_line, start_words, start_line, later_line, read_row, read_line, nodes_after, placed_after, place_after}
+use Rattle.unix_calls.specs.declared.limits.TheConstants.{MOST_NODES, MOST_SCRIPTS, MOST_STATEMENTS, MOST_STARTS}
 
 -- what a line says of nodes: at most 64 of them, and starts on one of so many
 pub record IsFine (nodes : ℕ) (read : Result Item Kind) : Type 0 where
-  pub counts : (n : ℕ) → read ≡ Ok (item.Nodes n) → n ≤ 64
+  pub counts : (n : ℕ) → read ≡ Ok (item.Nodes n) → n ≤ MOST_NODES
   pub starts : (s : StartLine) → read ≡ Ok (item.Starts s) → s.node < nodes
 
 fine-err : (m : ℕ) (kind : Kind) → IsFine m (Err kind)
@@ -47,11 +48,11 @@ node-fits : (m : ℕ) (word : Word) (k : ℕ) → node m word ≡ Ok k → k < m
 unfolding node
 node-fits m word k h = node_read m (number word) k h
 
-few : (n : ℕ) → (nat_lt 0 n && nat_le n 64) ≡ true → n ≤ 64
+few : (n : ℕ) → (nat_lt 0 n && nat_le n MOST_NODES) ≡ true → n ≤ MOST_NODES
 few n h = grind (arith, nat_tests)
 
 -- a line that says something else than nodes or a start
-fine-nodes : (m n : ℕ) → n ≤ 64 → IsFine m (Ok (item.Nodes n))
+fine-nodes : (m n : ℕ) → n ≤ MOST_NODES → IsFine m (Ok (item.Nodes n))
 fine-nodes m n le = record { counts = λ k e. let same : n ≡ k = cc in rw (← same) le; starts = λ s e. absurd cc }
 
 fine-begins : (m : ℕ) → IsFine m (Ok item.ScriptBegins)
@@ -73,13 +74,13 @@ fine-cluster : (m : ℕ) (row : Row) → IsFine m (cluster_line row)
 unfolding cluster_line
 fine-cluster m row =
     fine-if m (is_same (word_at row 0) (codes "cluster")) _ _
-    (λ _. fine-bind m (number (word_at row 1)) _ (λ n _. fine-if m (nat_lt 0 n && nat_le n 64) _ _ (λ h. fine-bind m (ended {A = Unit {0}} row 2 tt) _ (λ _ _. fine-nodes m n (few n h))) (fine-err m TooManyNodes)))
+    (λ _. fine-bind m (number (word_at row 1)) _ (λ n _. fine-if m (nat_lt 0 n && nat_le n MOST_NODES) _ _ (λ h. fine-bind m (ended {A = Unit {0}} row 2 tt) _ (λ _ _. fine-nodes m n (few n h))) (fine-err m TooManyNodes)))
     (fine-err m NoClusterLine)
 
 fine-script : (m : ℕ) (names : Names) (place : Place) (row : Row) → IsFine m (script_line names place row)
 unfolding script_line
 fine-script m names place row =
-    fine-if m (place.scripts == 64) _ _ (λ _. fine-err m TooManyScripts) (fine-if m place.is_open _ _ (λ _. fine-err m UnknownWord)
+    fine-if m (place.scripts == MOST_SCRIPTS) _ _ (λ _. fine-err m TooManyScripts) (fine-if m place.is_open _ _ (λ _. fine-err m UnknownWord)
     (fine-bind m (name (word_at row 1)) _ (λ _ _. fine-if m (is_numbered names.scripts (word_at row 1) place.scripts) _ _ (λ _. fine-bind m (ended {A = Unit {0}} row 2 tt) _ (λ _ _. fine-begins m)) (fine-err m DoubleName))))
 
 fine-end : (m : ℕ) (place : Place) (row : Row) → IsFine m (end_line place row)
@@ -89,7 +90,7 @@ fine-end m place row = fine-if m place.is_open _ _ (λ _. fine-bind m (ended {A 
 fine-statement : (m : ℕ) (names : Names) (place : Place) (verb : Verb) (row : Row) → IsFine m (statement_line names place verb row)
 unfolding statement_line
 fine-statement m names place verb row =
-    fine-if m place.is_open _ _ (λ _. fine-if m (place.statements == 256) _ _ (λ _. fine-err m TooManyStatements) (fine-bind m (statement_of names place verb row) _ (λ s _. fine-says m s))) (fine-err m UnknownWord)
+    fine-if m place.is_open _ _ (λ _. fine-if m (place.statements == MOST_STATEMENTS) _ _ (λ _. fine-err m TooManyStatements) (fine-bind m (statement_of names place verb row) _ (λ s _. fine-says m s))) (fine-err m UnknownWord)
 
 fine-words : (names : Names) (place : Place) (row : Row) → IsFine place.nodes (start_words names place row)
 unfolding start_words
@@ -98,7 +99,7 @@ fine-words names place row =
 
 fine-start : (names : Names) (place : Place) (row : Row) → IsFine place.nodes (start_line names place row)
 unfolding start_line
-fine-start names place row = fine-if place.nodes (place.starts == 64) _ _ (λ _. fine-err place.nodes TooManyStarts) (fine-if place.nodes place.is_open _ _ (λ _. fine-err place.nodes UnknownWord) (fine-words names place row))
+fine-start names place row = fine-if place.nodes (place.starts == MOST_STARTS) _ _ (λ _. fine-err place.nodes TooManyStarts) (fine-if place.nodes place.is_open _ _ (λ _. fine-err place.nodes UnknownWord) (fine-words names place row))
 
 fine-later : (names : Names) (place : Place) (h : Head) (row : Row) → IsFine place.nodes (later_line names place h row)
 unfolding later_line
@@ -118,7 +119,7 @@ unfolding read_line
 fine-line names place line = fine-if place.nodes (is_utf8 line) _ _ (λ _. fine-row names place (words line)) (fine-err place.nodes NotUtf8)
 
 -- a start that a line says is on one of at most 64 nodes
-pub has-node : (m : ℕ) (read : Result Item Kind) → IsFine m read → m ≤ 64 → HasNode read
+pub has-node : (m : ℕ) (read : Result Item Kind) → IsFine m read → m ≤ MOST_NODES → HasNode read
 has-node m (Ok (item.Starts s)) fine le = let lt = fine.starts s refl in omega arith
 has-node m (Ok _) fine le = tt
 has-node m (Err _) fine le = tt
@@ -128,14 +129,14 @@ pub record IsWithin (n : ℕ) (place : Place) : Type 0 where
   pub scripts : place.scripts ≤ n
   pub statements : place.statements ≤ n
   pub starts : place.starts ≤ n
-  pub nodes : place.nodes ≤ 64
+  pub nodes : place.nodes ≤ MOST_NODES
 
-few_nodes : (m : ℕ) (read : Result Item Kind) → IsFine m read → m ≤ 64 → nodes_after m read ≤ 64
+few_nodes : (m : ℕ) (read : Result Item Kind) → IsFine m read → m ≤ MOST_NODES → nodes_after m read ≤ MOST_NODES
 few_nodes m (Ok (item.Nodes n)) fine le = fine.counts n refl
 few_nodes m (Ok _) fine le = le
 few_nodes m (Err _) fine le = le
 
-within-placed : (n : ℕ) (place : Place) (nodes : ℕ) (h : Head) → IsWithin n place → nodes ≤ 64 → IsWithin (n + 1) (placed_after place nodes h)
+within-placed : (n : ℕ) (place : Place) (nodes : ℕ) (h : Head) → IsWithin n place → nodes ≤ MOST_NODES → IsWithin (n + 1) (placed_after place nodes h)
 within-placed n place nodes head.Script w le = record { scripts = omega (arith, w.scripts); statements = omega arith; starts = omega (arith, w.starts); nodes = le }
 within-placed n place nodes head.End w le = record { scripts = omega (arith, w.scripts); statements = omega (arith, w.statements); starts = omega (arith, w.starts); nodes = le }
 within-placed n place nodes head.Start w le = record { scripts = omega (arith, w.scripts); statements = omega (arith, w.statements); starts = omega (arith, w.starts); nodes = le }

@@ -23,6 +23,7 @@ use Rattle.script_reader.specs.Lines.{read_line, place_after}
 use Rattle.script_reader.specs.Files.{Told, begins_with, said, body, tells, place_behind, scripts_of, is_little, fault_at, start_of, with_start, judged}
 use Rattle.script_reader.specs.Starts.{started, HasNode}
 use Rattle.script_reader.specs.Bodies.{scripts_with}
+use Rattle.unix_calls.specs.declared.limits.TheConstants.{MOST_NODES}
 
 abbrev pub Lines : Type 0
 Lines = List (Bor (List ℕ))
@@ -102,7 +103,7 @@ judged-crowded works starts number row rest (Err k) s e little = absurd cc
 judged-crowded works starts number row rest (Ok (item.Starts t)) s e little = let same : t ≡ s = cc in rw (same, little) refl
 judged-crowded works starts number row rest (Ok _) s e little = absurd cc
 
-pub node-in : (read : Result Item Kind) (s : StartLine) → started read ≡ Ok (Some s) → HasNode read → s.node < 64
+pub node-in : (read : Result Item Kind) (s : StartLine) → started read ≡ Ok (Some s) → HasNode read → s.node < MOST_NODES
 node-in (Err k) s e h = absurd cc
 node-in (Ok (item.Starts t)) s e h = let same : t ≡ s = cc in rw (← same) h
 node-in (Ok _) s e h = absurd cc

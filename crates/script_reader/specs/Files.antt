@@ -20,6 +20,7 @@ use Rattle.script_reader.specs.declared.lines.StartLine.{StartLine}
 use Rattle.script_words.specs.Words.{Word, Row, is_same, word_at}
 use Rattle.script_reader.specs.Names.{Table, noted}
 use Rattle.script_reader.specs.Lines.{read_line, place_after}
+use Rattle.unix_calls.specs.declared.limits.TheConstants.{MOST_PROCESSES, MOST_WORK}
 
 -- whether a line's first word is this one
 unfoldable pub begins_with : Word → Row → Bool
@@ -99,7 +100,7 @@ start_of earlier s = record {
 
 -- at most 1,024 processes and 4,096 statements
 abbrev pub is_little : Work → Bool
-is_little work = nat_le work.processes 1024 && nat_le work.statements 4096
+is_little work = nat_le work.processes MOST_PROCESSES && nat_le work.statements MOST_WORK
 
 abbrev pub fault_at : ℕ → Kind → Fault
 fault_at line kind = record { line = line; kind = kind }

@@ -14,6 +14,7 @@ use Rattle.script_reader.specs.declared.lines.Item.TheVariants as item
 use Rattle.script_words.specs.Words.{Word, Row, ◌>>=◌, found, is_same, word_at, name, number, ended, node, is_skipped}
 use Rattle.script_reader.specs.Names.{Table, number_in}
 use Rattle.script_reader.specs.Statements.{script, statement_of, verb_named}
+use Rattle.unix_calls.specs.declared.limits.TheConstants.{MOST_NODES, MOST_SCRIPTS, MOST_STATEMENTS, MOST_STARTS}
 
 -- what a line begins with
 unfoldable pub head_of : Word → Head
@@ -36,12 +37,12 @@ is_numbered table word at = is_at (number_in table word) where
 unfoldable pub cluster_line : Row → Result Item Kind
 cluster_line row =
     if is_same (word_at row 0) (codes "cluster")
-    then (number (word_at row 1) >>= λ n. (if nat_lt 0 n && nat_le n 64 then (ended {A = Unit {0}} row 2 tt >>= λ _. Ok (item.Nodes n)) else Err TooManyNodes))
+    then (number (word_at row 1) >>= λ n. (if nat_lt 0 n && nat_le n MOST_NODES then (ended {A = Unit {0}} row 2 tt >>= λ _. Ok (item.Nodes n)) else Err TooManyNodes))
     else Err NoClusterLine
 
 unfoldable pub script_line : Names → Place → Row → Result Item Kind
 script_line names place row =
-    if place.scripts == 64 then Err TooManyScripts
+    if place.scripts == MOST_SCRIPTS then Err TooManyScripts
     else (if place.is_open then Err UnknownWord
     else (name (word_at row 1) >>= λ _. (if is_numbered names.scripts (word_at row 1) place.scripts then (ended {A = Unit {0}} row 2 tt >>= λ _. Ok item.ScriptBegins) else Err DoubleName)))
 
@@ -51,7 +52,7 @@ end_line place row = if place.is_open then (ended {A = Unit {0}} row 1 tt >>= λ
 unfoldable pub statement_line : Names → Place → Verb → Row → Result Item Kind
 statement_line names place verb row =
     if place.is_open
-    then (if place.statements == 256 then Err TooManyStatements else (statement_of names place verb row >>= λ s. Ok (item.Says s)))
+    then (if place.statements == MOST_STATEMENTS then Err TooManyStatements else (statement_of names place verb row >>= λ s. Ok (item.Says s)))
     else Err UnknownWord
 
 -- the variable of a start, which no earlier start has
@@ -85,7 +86,7 @@ start_words names place row = do
 
 unfoldable pub start_line : Names → Place → Row → Result Item Kind
 start_line names place row =
-    if place.starts == 64 then Err TooManyStarts
+    if place.starts == MOST_STARTS then Err TooManyStarts
     else (if place.is_open then Err UnknownWord
     else start_words names place row)
 

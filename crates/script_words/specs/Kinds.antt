@@ -5,24 +5,28 @@ use Rattle.script_words.specs.declared.faults.Kind.{Kind}
 use Rattle.script_words.specs.declared.faults.Kind.TheVariants.{NotUtf8, NoClusterLine, UnknownWord, UnknownScript, LaterScript, BadNumber, NoSuchNode, TooManyNodes, TooManyScripts, TooManyStatements, TooManyStarts, TooMuchWork, TooManyTurns, NoStart, DoubleName, LongName}
 
 -- the word by which a fault of a kind is told
-abbrev pub name_of : Kind → List ℕ
-name_of NotUtf8 = codes "NotUtf8"
-name_of NoClusterLine = codes "NoClusterLine"
-name_of UnknownWord = codes "UnknownWord"
-name_of UnknownScript = codes "UnknownScript"
-name_of LaterScript = codes "LaterScript"
-name_of BadNumber = codes "BadNumber"
-name_of NoSuchNode = codes "NoSuchNode"
-name_of TooManyNodes = codes "TooManyNodes"
-name_of TooManyScripts = codes "TooManyScripts"
-name_of TooManyStatements = codes "TooManyStatements"
-name_of TooManyStarts = codes "TooManyStarts"
-name_of TooMuchWork = codes "TooMuchWork"
-name_of TooManyTurns = codes "TooManyTurns"
-name_of NoStart = codes "NoStart"
-name_of DoubleName = codes "DoubleName"
-name_of LongName = codes "LongName"
+abbrev pub kind_name : Kind → List ℕ
+kind_name NotUtf8 = codes "NotUtf8"
+kind_name NoClusterLine = codes "NoClusterLine"
+kind_name UnknownWord = codes "UnknownWord"
+kind_name UnknownScript = codes "UnknownScript"
+kind_name LaterScript = codes "LaterScript"
+kind_name BadNumber = codes "BadNumber"
+kind_name NoSuchNode = codes "NoSuchNode"
+kind_name TooManyNodes = codes "TooManyNodes"
+kind_name TooManyScripts = codes "TooManyScripts"
+kind_name TooManyStatements = codes "TooManyStatements"
+kind_name TooManyStarts = codes "TooManyStarts"
+kind_name TooMuchWork = codes "TooMuchWork"
+kind_name TooManyTurns = codes "TooManyTurns"
+kind_name NoStart = codes "NoStart"
+kind_name DoubleName = codes "DoubleName"
+kind_name LongName = codes "LongName"
+
+-- a fault of a line
+abbrev pub fault_at : ℕ → Kind → Fault
+fault_at line kind = record { line = line; kind = kind }
 
 -- how a fault is told
-abbrev pub text_of : Fault → List ℕ
-text_of fault = codes "line " ++ (decimal fault.line ++ (codes ": " ++ name_of fault.kind))
+abbrev pub fault_text : Fault → List ℕ
+fault_text fault = codes "bad file: line " ++ (decimal fault.line ++ (codes ": " ++ kind_name fault.kind))

@@ -7,6 +7,7 @@ use Rattle.unix_names.specs.declared.signals.Signal.{Signal}
 use Rattle.unix_names.specs.Signals.{number_of, signal_of, signal_named}
 use Rattle.script_words.specs.declared.faults.Kind.{Kind}
 use Rattle.script_words.specs.declared.faults.Kind.TheVariants.{UnknownWord, BadNumber, NoSuchNode, LongName}
+use Rattle.script_words.specs.declared.limits.TheConstants.{LONGEST_NAME}
 
 abbrev pub Word : Type 0
 Word = List ℕ
@@ -59,7 +60,7 @@ is_reserved word = list_any (is_same word) reserved
 unfoldable pub name : Word → Result (Unit {0}) Kind
 name word =
     if has_name_form word && not (is_reserved word)
-    then (if nat_le (length word) 16 then Ok tt else Err LongName)
+    then (if nat_le (length word) LONGEST_NAME then Ok tt else Err LongName)
     else Err UnknownWord
 
 -- 1 to 10 decimal digits that spell a number below 2^32

@@ -1,11 +1,10 @@
 // What can be wrong with a file.
 ghost use Rattle.std.specs.Prelude.{◌≡◌};
-ghost use Rattle.script_words.specs.Kinds.{name_of};
-ghost use Rattle.script_words.specs.declared.faults.ReadRefusal.TheVariants.{NoMemory as OutOfMemory};
+ghost use Rattle.script_words.specs.Kinds.{kind_name, fault_at};
+ghost use Rattle.script_words.specs.declared.faults.Refusal.TheVariants.{NoMemory as OutOfMemory};
 
 use std::alloc::{AllocError, AllocFailed};
 use std::fmt;
-use thiserror::Error;
 use unix_names::NoMemory;
 
 /// What is wrong with a line of a file.
@@ -48,7 +47,7 @@ pub enum Kind {
 impl Kind {
     /// The word by which a fault of this kind is told.
     pub fn name(self) -> &'static str
-        ensures { result.now ≡ name_of self }
+        ensures { result.now ≡ kind_name self }
     {
         match self {
             Kind::NotUtf8 => "NotUtf8",
@@ -73,9 +72,9 @@ impl Kind {
 
 impl fmt::Display for Kind {
     ghost use Rattle.std.specs.Prelude.{Some};
-    ghost use Rattle.script_words.specs.Kinds.{name_of};
+    ghost use Rattle.script_words.specs.Kinds.{kind_name};
 
-    ghost output = { λ k. Some (name_of k) };
+    ghost output = { λ k. Some (kind_name k) };
 
     fn fmt<W: fmt::Write>(&self, f: &mut fmt::Formatter<W>) -> fmt::Result {
         let name = self.name();
@@ -92,46 +91,54 @@ pub struct Fault {
 
 impl fmt::Display for Fault {
     ghost use Rattle.std.specs.Prelude.{Some};
-    ghost use Rattle.script_words.specs.Kinds.{text_of};
+    ghost use Rattle.script_words.specs.Kinds.{fault_text};
 
-    ghost output = { λ f. Some (text_of f) };
+    ghost output = { λ f. Some (fault_text f) };
 
     fn fmt<W: fmt::Write>(&self, f: &mut fmt::Formatter<W>) -> fmt::Result {
         let line = self.line;
         let kind = self.kind;
-        write!(f, "line {line}: {kind}")
+        write!(f, "bad file: line {line}: {kind}")
     }
 }
 
-/// Why a file was not read.
-#[derive(Clone, Copy, Debug, PartialEq, Eq, Error)]
-pub enum ReadRefusal {
-    #[error("bad file: {0}")]
-    Bad(Fault),
-    #[error("out of memory")]
+/// Why a text was not read: what is wrong with it, or that memory ran out.
+#[derive(Clone, Copy, Debug, PartialEq, Eq)]
+pub enum Refusal<F> {
+    Bad(F),
     NoMemory,
 }
 
-impl From<AllocError> for ReadRefusal {
+/// Why a file was not read.
+pub type ReadRefusal = Refusal<Fault>;
+
+/// A file with a fault of this kind at this line.
+pub fn bad(line: u32, kind: Kind) -> ReadRefusal
+    ensures { result ≡ Refusal.Bad (fault_at line kind) }
+{
+    Refusal::Bad(Fault { line, kind })
+}
+
+impl<F> From<AllocError> for Refusal<F> {
     ghost from_gives = { λ _ e. e ≡ OutOfMemory };
 
-    fn from(_e: AllocError) -> ReadRefusal {
-        ReadRefusal::NoMemory
+    fn from(_e: AllocError) -> Refusal<F> {
+        Refusal::NoMemory
     }
 }
 
-impl From<NoMemory> for ReadRefusal {
+impl<F> From<NoMemory> for Refusal<F> {
     ghost from_gives = { λ _ e. e ≡ OutOfMemory };
 
-    fn from(_e: NoMemory) -> ReadRefusal {
-        ReadRefusal::NoMemory
+    fn from(_e: NoMemory) -> Refusal<F> {
+        Refusal::NoMemory
     }
 }
 
-impl<T: Drop> From<AllocFailed<T>> for ReadRefusal {
+impl<F, T: Drop> From<AllocFailed<T>> for Refusal<F> {
     ghost from_gives = { λ _ e. e ≡ OutOfMemory };
 
-    fn from(_e: AllocFailed<T>) -> ReadRefusal {
-        ReadRefusal::NoMemory
+    fn from(_e: AllocFailed<T>) -> Refusal<F> {
+        Refusal::NoMemory
     }
 }

@@ -2,13 +2,15 @@
 #![tactic(auto)]
 
 mod faults;
+mod limits;
 mod table;
 #[cfg(test)]
 mod tests;
 mod words;
 mod writing;
 
-pub use faults::{Fault, Kind, ReadRefusal};
+pub use faults::{Fault, Kind, ReadRefusal, Refusal, bad};
+pub use limits::LONGEST_NAME;
 pub use table::{
     Verb, act_named, act_word, changes_in, errno_named, errno_word, verb_named, verb_word,
 };

@@ -1,5 +1,5 @@
 use crate::{
-    Fault, Kind, ReadRefusal, Verb, act_named, changes_in, ended, errno_named, is_minus_digits,
+    Fault, Kind, Verb, act_named, changes_in, ended, errno_named, is_minus_digits,
     is_skipped, name, node, number, put_changes, put_members, put_signal, put_word, signal,
     signal_number, verb_named, verb_word,
 };
@@ -69,8 +69,7 @@ fn tells_faults(rt: HostRuntime) -> Result<(), Fail> {
         line: 7,
         kind: Kind::LaterScript,
     };
-    let refusal = ReadRefusal::Bad(fault);
-    let text = format!(in rt.alloc(); "{refusal}")?;
+    let text = format!(in rt.alloc(); "{fault}")?;
     assert_eq!(rt; text.as_str(), "bad file: line 7: LaterScript");
     Ok(())
 }

@@ -6,11 +6,9 @@ ghost use Rattle.std.specs.List.{list_any, list_all};
 ghost use Rattle.script_words.specs.Words as spec;
 
 use crate::faults::Kind;
+use crate::limits::LONGEST_NAME;
 use byte_ends::number_at;
 use unix_names::{Signal, number_of, signal_named, signal_of};
-
-/// The longest name, in bytes.
-const LONGEST_NAME: usize = 16;
 
 /// The words that have the form of a name and are none.
 const RESERVED: [&str; 8] = [

@@ -1,10 +1,11 @@
 -- How much a world makes when all forks and execs are followed.
-use Rattle.std.specs.Prelude.{ℕ, ◌+◌, ◌-◌, min, List, [], ◌∷◌, ◌++◌, unwrap_or, slice_get, fold}
+use Rattle.std.specs.Prelude.{ℕ, ◌+◌, ◌-◌, min, Bool, ◌&&◌, nat_le, List, [], ◌∷◌, ◌++◌, unwrap_or, slice_get, fold}
 use Rattle.unix_calls.specs.declared.world.Script.{Script}
 use Rattle.unix_calls.specs.declared.world.Start.{Start}
 use Rattle.unix_calls.specs.declared.world.Statement.{Statement}
 use Rattle.unix_calls.specs.declared.world.Statement.TheVariants.{Fork, Exec}
 use Rattle.unix_calls.specs.declared.work.Work.{Work}
+use Rattle.unix_calls.specs.declared.limits.TheConstants.{WORK_STOP, MOST_PROCESSES, MOST_WORK}
 
 -- so many processes, and so many statements
 abbrev pub work : ℕ → ℕ → Work
@@ -12,7 +13,7 @@ work processes statements = record { processes = processes; statements = stateme
 
 -- sums stop at 1,000,000
 abbrev pub together : Work → Work → Work
-together a b = work (min (a.processes + b.processes) 1000000) (min (a.statements + b.statements) 1000000)
+together a b = work (min (a.processes + b.processes) WORK_STOP) (min (a.statements + b.statements) WORK_STOP)
 
 -- the work of a script, or none where there is no such script
 abbrev pub work_of : List Work → ℕ → Work
@@ -42,3 +43,7 @@ works scripts = fold with_script [] scripts
 -- the work of all starts
 abbrev pub total_work : List Work → List Start → Work
 total_work works starts = fold (λ total start. together total (work_of works start.script)) (work 0 0) starts
+
+-- at most 1,024 processes and 4,096 statements
+abbrev pub is_little : Work → Bool
+is_little w = nat_le w.processes MOST_PROCESSES && nat_le w.statements MOST_WORK

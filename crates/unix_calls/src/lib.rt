@@ -2,6 +2,7 @@
 #![tactic(auto)]
 
 mod calls;
+mod limits;
 #[cfg(test)]
 mod tests;
 mod turns;
@@ -10,7 +11,8 @@ mod work;
 mod world;
 
 pub use calls::{Call, Entry, Event, Reply, Selector, Target, selector_of, target_of};
+pub use limits::{MOST_NODES, MOST_PROCESSES, MOST_SCRIPTS, MOST_STARTS, MOST_STATEMENTS, MOST_TURNS, MOST_WORK, WORK_STOP};
 pub use turns::{Job, Phase, Turn};
-pub use valid::{MOST_NODES, MOST_PROCESSES, MOST_STARTS, MOST_STATEMENTS, MOST_WORK};
-pub use work::{MOST_SCRIPTS, WORK_STOP, Work, script_work, total_work, work_of, works_of};
+pub use valid::start_pid;
+pub use work::{Work, script_work, fill_works, total_work, work_of};
 pub use world::{Arg, Script, Start, Statement, World};

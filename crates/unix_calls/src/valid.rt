@@ -1,26 +1,13 @@
 // Which worlds can be run.
-ghost use Rattle.std.specs.Prelude.{◌≡◌, ◌+◌, ◌≤◌, ◌<◌, ◌↔◌, IsTrue, IfSome, length, take, All};
-ghost use Rattle.unix_calls.specs.Valid.{IsNode, IsVariable, IsArgument, IsStatement, IsScript, IsStart, IsLittleWork, HasLimits, IsValid, EachAt, start_pid};
-ghost use Rattle.unix_calls.specs.Work.{works, total_work};
+ghost use Rattle.std.specs.Prelude.{◌≡◌, ◌+◌, ◌≤◌, ◌<◌, ◌^◌, ◌↔◌, IsTrue, IfSome, length, take, All};
+ghost use Rattle.unix_calls.specs.Valid.{IsNode, IsVariable, IsArgument, IsStatement, IsScript, IsStart, HasLimits, IsValid, EachAt};
+ghost use Rattle.unix_calls.specs.Valid as spec;
+ghost use Rattle.unix_calls.specs.Work.{works, total_work, is_little};
 
-use crate::work::{MOST_SCRIPTS, Work, total_work, works_of};
+use crate::limits::{MOST_NODES, MOST_SCRIPTS, MOST_STARTS, MOST_STATEMENTS};
+use crate::work::{Work, fill_works, total_work};
 use crate::world::{Arg, Script, Start, Statement, World};
 use unix_names::{NodeId, PIDS_PER_NODE, Pid};
-
-/// How many nodes a world has at most.
-pub const MOST_NODES: u32 = 64;
-
-/// How many statements a script has at most.
-pub const MOST_STATEMENTS: usize = 256;
-
-/// How many starts a world has at most.
-pub const MOST_STARTS: usize = 64;
-
-/// How many processes a world makes at most, all forks and execs followed.
-pub const MOST_PROCESSES: u32 = 1_024;
-
-/// How many statements a world runs at most, all forks and execs followed.
-pub const MOST_WORK: u32 = 4_096;
 
 impl World {
     /// Whether the world can be run: its limits hold; variables, nodes and scripts are in range; a fork or an exec names an earlier script; starts have their pids and variables of their own, and join an earlier start. It takes no memory.
@@ -57,7 +44,8 @@ impl World {
     }
 
     fn has_starts(&self) -> bool
-        requires { length self.now.starts ≤ 64 }
+        requires nodes { self.now.nodes ≤ MOST_NODES }
+        requires few { length self.now.starts ≤ MOST_STARTS }
         ensures { IsTrue result ↔ EachAt (λ k. IsStart self.now (take k self.now.starts)) self.now.starts }
     {
         let starts = self.starts.as_slice();
@@ -70,12 +58,13 @@ impl World {
     }
 
     fn has_little_work(&self) -> bool
-        requires { length self.now.scripts ≤ 64 }
-        ensures { IsTrue result ↔ IsLittleWork (total_work (works self.now.scripts) self.now.starts) }
+        requires { length self.now.scripts ≤ MOST_SCRIPTS }
+        ensures { result ≡ is_little (total_work (works self.now.scripts) self.now.starts) }
     {
-        let works = works_of(self.scripts.as_slice());
-        let total = total_work(&works[..self.scripts.len()], self.starts.as_slice());
-        total.is_little()
+        let mut works = [Work::NONE; MOST_SCRIPTS];
+        let works = &mut works[..self.scripts.len()];
+        fill_works(works, self.scripts.as_slice());
+        total_work(works, self.starts.as_slice()).is_little()
     }
 
     fn is_script(&self, k: usize, script: &Script) -> bool
@@ -132,33 +121,27 @@ impl World {
     }
 
     fn is_start(&self, earlier: &[Start], start: &Start) -> bool
-        requires { length earlier.now ≤ 64 }
+        requires nodes { self.now.nodes ≤ MOST_NODES }
+        requires few { length earlier.now ≤ MOST_STARTS }
         ensures { IsTrue result ↔ IsStart self.now earlier.now start.now }
     {
         self.is_node(start.node)
             && start.script < self.scripts.len()
             && start.var < self.vars
-            && is_start_pid(start.pid, start.node, earlier)
+            && start.pid == start_pid(start.node, earlier)
             && earlier.iter().all(|other| other.var != start.var)
             && joins_earlier(start.joined, earlier.len())
     }
 }
 
-impl Work {
-    /// Whether a world with this work can be run.
-    pub fn is_little(self) -> bool
-        ensures { IsTrue result ↔ IsLittleWork self }
-    {
-        self.processes <= MOST_PROCESSES && self.statements <= MOST_WORK
-    }
-}
-
-/// Whether the pid is that of the next start of the node.
-fn is_start_pid(pid: Pid, node: NodeId, earlier: &[Start]) -> bool
-    ensures { IsTrue result ↔ (pid.0 ≡ start_pid node earlier.now) }
+/// The pid of a start at a node, behind earlier starts.
+pub fn start_pid(node: NodeId, earlier: &[Start]) -> Pid
+    requires node { node.0 < MOST_NODES }
+    requires few { length earlier.now < 2 ^ 31 }
+    ensures { result.0 ≡ spec.start_pid node earlier.now }
 {
     let at_node = earlier.iter().filter(|start| start.node == node).count();
-    pid.0 as usize == PIDS_PER_NODE as usize * node.0 as usize + 2 + at_node
+    Pid(PIDS_PER_NODE * node.0 + 2 + at_node as u32)
 }
 
 fn joins_earlier(joined: Option<usize>, count: usize) -> bool

@@ -1,14 +1,9 @@
 // How many processes a script makes, and how many statements they run.
 ghost use Rattle.std.specs.Prelude.{◌≡◌, ◌+◌, ◌≤◌, length, take, min};
-ghost use Rattle.unix_calls.specs.Work.{with_statement, script_work, works, work_of, together, total_work};
+ghost use Rattle.unix_calls.specs.Work.{with_statement, script_work, works, work_of, together, total_work, is_little};
 
+use crate::limits::{MOST_PROCESSES, MOST_WORK, WORK_STOP};
 use crate::world::{Script, Start, Statement};
-
-/// Where the sums of work stop.
-pub const WORK_STOP: u32 = 1_000_000;
-
-/// How many scripts a world has at most.
-pub const MOST_SCRIPTS: usize = 64;
 
 /// How much a process makes when all its forks and execs are followed: processes, itself included, and statements, an `exit 0` at the end of each script included. Both stop at 1,000,000.
 #[derive(Clone, Copy, Debug, PartialEq, Eq)]
@@ -60,11 +55,18 @@ impl Work {
             _ => one,
         }
     }
+
+    /// Whether a world with this work can be run.
+    pub fn is_little(self) -> bool
+        ensures { result ≡ is_little self }
+    {
+        self.processes <= MOST_PROCESSES && self.statements <= MOST_WORK
+    }
 }
 
 /// The sum of two numbers, or 1,000,000 where it is above that.
 fn stopped_sum(first: u32, second: u32) -> u32
-    ensures { result ≡ min (first + second) 1000000 }
+    ensures { result ≡ min (first + second) WORK_STOP }
 {
     first.saturating_add(second).min(WORK_STOP)
 }
@@ -87,17 +89,15 @@ pub fn script_work(earlier: &[Work], statements: &[Statement]) -> Work
     work
 }
 
-/// The work of each script in order, at the front of the array.
-pub fn works_of(scripts: &[Script]) -> [Work; MOST_SCRIPTS]
-    requires { length scripts.now ≤ 64 }
-    ensures { take (length scripts.now) result ≡ works scripts.now }
+/// Puts the work of each script in order into `list`, which has a place for each.
+pub fn fill_works(list: &mut [Work], scripts: &[Script])
+    requires { length list.old ≡ length scripts.now }
+    ensures { list.new ≡ works scripts.now }
 {
-    let mut works = [Work::NONE; MOST_SCRIPTS];
     for (k, script) in scripts.iter().enumerate() {
-        let work = script_work(&works[..k], script.statements.as_slice());
-        works[k] = work;
+        let work = script_work(&list[..k], script.statements.as_slice());
+        list[k] = work;
     }
-    works
 }
 
 /// The work of all starts together.

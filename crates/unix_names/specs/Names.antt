@@ -1,6 +1,7 @@
 use Rattle.std.specs.Prelude.{ℕ, ◌/◌, ◌<◌, nat_lt, if◌then◌else◌}
 use Rattle.unix_names.specs.declared.names.Name.{Name}
 use Rattle.unix_names.specs.declared.names.Name.TheVariants.{V, G}
+use Rattle.unix_names.specs.declared.limits.TheConstants.{PIDS_PER_NODE}
 
 -- the process id of a name
 abbrev pub pid_of : Name → ℕ
@@ -9,7 +10,7 @@ pid_of (G g) = g.0
 
 -- the node that a process id was given out at, or node 0 where there is no such node
 abbrev pub home : Name → ℕ → ℕ
-home name nodes = if nat_lt (pid_of name / 1000000) nodes then pid_of name / 1000000 else 0
+home name nodes = if nat_lt (pid_of name / PIDS_PER_NODE) nodes then pid_of name / PIDS_PER_NODE else 0
 
 -- every process comes before every group, then the lower id comes first
 abbrev pub IsBefore : Name → Name → Type 0

@@ -2,6 +2,7 @@
 #![tactic(auto)]
 
 pub mod laws;
+mod limits;
 mod names;
 mod seq;
 mod sets;
@@ -10,7 +11,8 @@ mod states;
 #[cfg(test)]
 mod tests;
 
-pub use names::{NOBODY, Name, NoMemory, NodeId, PIDS_PER_NODE, Pid, SYSTEM, home_of, is_before};
+pub use limits::{MOST_CHILDREN, NO_PID, PIDS_PER_NODE};
+pub use names::{NOBODY, Name, NoMemory, NodeId, Pid, SYSTEM, home_of, is_before};
 pub use seq::Seq;
 pub use sets::SigSet;
 pub use signals::{

@@ -2,16 +2,14 @@
 ghost use Rattle.std.specs.Prelude.{◌≡◌, ◌≤◌, ◌↔◌, IsTrue};
 ghost use Rattle.unix_names.specs.Names.{home, IsBefore};
 
+use crate::limits::{NO_PID, PIDS_PER_NODE};
 use std::alloc::{AllocError, AllocFailed};
-
-/// How many process ids a node has: node k gives out the ids from 1,000,000 k + 2 on.
-pub const PIDS_PER_NODE: u32 = 1_000_000;
 
 /// The process id of the system process, the parent of whoever has no other.
 pub const SYSTEM: Pid = Pid(1);
 
 /// The process id that is never given out. Scripts write it `none`.
-pub const NOBODY: Pid = Pid(999_999);
+pub const NOBODY: Pid = Pid(NO_PID);
 
 /// A process id, also used for groups and sessions (POSIX.1-2017, XBD 3.297, 3.296 and 3.344).
 #[derive(Clone, Copy, Debug, Default, PartialEq, Eq, PartialOrd, Ord)]

@@ -5,7 +5,7 @@ use Rattle.std.proofs.lemmas.Iterator.Adapters.{fact_from_extend}
 use Rattle.std.proofs.lemmas.Iterator.Consumers.{YieldsList-from_filter, YieldsList-at}
 use Rattle.std.proofs.lemmas.Iterator.Splits.{YieldsList-from_slice_split}
 use Rattle.byte_ends.specs.Text.{is_blank}
-use Rattle.byte_ends.proofs.text.take_words.Goals as goal
+use Rattle.byte_ends.proofs.text.refill.Goals as goal
 
 -- what `extend` adds from a chain that yields a list
 chain_added : {T A C E Q : Type 0} {steps : T → Option A → T → Type 0} {all : List C} {P : List A → Type 0} {s : T} (v : A → C) (r : Result (Unit {0}) E)
