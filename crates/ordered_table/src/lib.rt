@@ -6,8 +6,6 @@ mod lists;
 mod queue;
 mod sparse;
 mod table;
-#[cfg(test)]
-mod tests;
 
 pub use entries::Entry;
 pub use lists::{join, put_members, take_members};

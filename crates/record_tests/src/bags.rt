@@ -3,8 +3,8 @@ ghost use Rattle.record_tests.specs.Elsewhere.{elsewhere, lawful_elsewhere};
 ghost use Rattle.signal_state.specs.Sig.{fresh};
 ghost use Rattle.unix_calls.specs.declared.Job.TheVariants.{Look};
 
-use record_bag::{Bag, Held, OpVector, Outcome, Site};
 use group_record::Group;
+use record_bag::{Bag, Held, OpVector, Outcome, Site};
 use signal_state::{Own, Sig};
 use std::alloc::Global;
 use std::test::Fail;

@@ -1,5 +1,5 @@
-use record_table::{Nudged, PutBack, Slots, Taken};
 use record_bag::Held;
+use record_table::{Nudged, PutBack, Slots, Taken};
 use std::alloc::Global;
 use std::test::Fail;
 use unix_names::{Life, Name, NodeId, Pid, Seq};

@@ -1,8 +1,8 @@
 ghost use Rattle.std.specs.Prelude.{IsTrue, ◌↔◌, ◌≤◌, ◌≡◌, [], All, length};
 ghost use Rattle.sig_stream.specs.Streams.{stream, tail};
 
-use sig_stream::{fold_tail, is_listed, regroup, settle, stream_len, tail_len};
 use group_record::{Allow, Group, Member};
+use sig_stream::{fold_tail, is_listed, regroup, settle, stream_len, tail_len};
 use signal_state::{Own, Sig};
 use std::alloc::Global;
 use std::test::Fail;

@@ -8,6 +8,3 @@ mod sig;
 pub use laws::{generating, keeping};
 pub use own::Own;
 pub use sig::{Sig, is_ignored_by_default};
-
-#[cfg(test)]
-mod tests;

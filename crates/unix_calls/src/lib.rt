@@ -3,8 +3,6 @@
 
 mod calls;
 mod limits;
-#[cfg(test)]
-mod tests;
 mod turns;
 mod valid;
 mod work;

@@ -8,8 +8,6 @@ mod seq;
 mod sets;
 mod signals;
 mod states;
-#[cfg(test)]
-mod tests;
 
 pub use limits::{MOST_CHILDREN, NO_PID, PIDS_PER_NODE};
 pub use names::{NOBODY, Name, NoMemory, NodeId, Pid, SYSTEM, home_of, is_before};

@@ -1,4 +1,4 @@
-use crate::Image;
+use proc_image::Image;
 use std::alloc::{AllocError, Global};
 use std::test::Fail;
 use unix_calls::{Arg, Call, Job, Reply, Script, Start, Statement, World};

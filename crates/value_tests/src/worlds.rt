@@ -1,6 +1,6 @@
-use crate::{Arg, Script, Start, Statement, World};
 use std::alloc::{AllocError, Global};
 use std::test::Fail;
+use unix_calls::{Arg, Script, Start, Statement, World};
 use unix_names::{NodeId, Pid, Seq};
 
 // A world of one node and one variable for each of eight starts.

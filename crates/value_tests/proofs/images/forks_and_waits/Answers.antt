@@ -1,5 +1,5 @@
 use Rattle.std.proofs.Common.{rules}
-use Rattle.proc_image.proofs.tests.forks_and_waits.Goals as goal
+use Rattle.value_tests.proofs.images.forks_and_waits.Goals as goal
 
 pub start-requires-clause-valid : goal.start-requires-clause-valid
 start-requires-clause-valid g c = c.is_valid.ensures.0 (search rules)

@@ -1,5 +1,5 @@
 // Worked examples.
-use super::*;
+use signal_state::Sig;
 use std::test::Fail;
 use unix_names::{Act, Errno, SigSet, Signal};
 

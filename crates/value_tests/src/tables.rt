@@ -1,4 +1,4 @@
-use crate::{Entry, Queue, SparseTable, Table};
+use ordered_table::{Entry, Queue, SparseTable, Table};
 use std::test::Fail;
 use unix_names::Pid;
 

@@ -1,7 +1,7 @@
-use crate::{
+use std::test::Fail;
+use unix_names::{
     ALL_SIGNALS, DefaultAct, Name, NoMemory, Pid, Seq, default_of, number_of, signal_named, word_of,
 };
-use std::test::Fail;
 
 #[test]
 fn no_process_by_default(rt: HostRuntime) {
