@@ -1,21 +1,21 @@
 -- A history has one judgement.
-use Rattle.std.proofs.Common.{◌≡◌, ◌<◌, ℕ, zero, suc, List, [], ◌∷◌, ◌++◌, take, Some, slice_get, inl, inr, ◌∙◌, refl, sym, ap, subst, arith}
+use Rattle.std.proofs.Common.{◌≡◌, ◌<◌, ℕ, zero, suc, List, [], ◌∷◌, ◌++◌, take, Option, None, Some, slice_get, inl, inr, ◌∙◌, refl, sym, ap, subst, arith}
 use Rattle.std.proofs.lemmas.Bool.{cases_order}
 use Rattle.std.proofs.lemmas.List.{take-take}
 use Rattle.unix_calls.specs.declared.Entry.{Entry}
 use Rattle.unix_calls.specs.declared.World.{World}
 use Rattle.process_table.specs.declared.Row.{Row}
-use Rattle.kernel_model.specs.declared.Rule.{Rule}
-use Rattle.kernel_model.specs.declared.Rule.TheVariants.{UnknownProcess, ScriptOrder, SignalFirst, WrongReply, WrongEvent}
+use Rattle.audit_core.specs.declared.judge.Breach.{Breach}
+use Rattle.audit_core.specs.declared.judge.Breach.TheVariants.{UnknownProcess, ScriptOrder, SignalFirst, WrongReply, WrongEvent}
 use Rattle.kernel_model.specs.declared.Verdict.{Verdict}
 use Rattle.kernel_model.specs.declared.Verdict.TheVariants as kernel
 use Rattle.kernel_model.specs.Step.{verdict, after}
 use Rattle.kernel_model.specs.Legal.{boot, after_entries, after_all, IsLegalFrom, IsLegal}
-use Rattle.proc_image.specs.Follows.{Running, first_running, after_entry, Follows}
+use Rattle.proc_image.specs.Follows.{Running, first_running, after_entry, Follows, running_after}
 use Rattle.proc_image.proofs.FollowsLaws.{FollowsFrom-at, FollowsFrom-push, after_entries-push as running-push}
 use Rattle.audit_core.specs.declared.judge.Judged.{Judged}
 use Rattle.audit_core.specs.declared.judge.Judged.TheVariants.{Legal, IllegalAt}
-use Rattle.audit_core.specs.Judge.{place_of, running_after, IsVerdictAt, IsFirstRuleAt, IsFirstRule, IsIllegalAfter, IsJudged}
+use Rattle.audit_core.specs.Judge.{place_of, IsVerdictAt, IsFirstRuleAt, IsFirstRule, IsIllegalAfter, IsJudged}
 use Rattle.audit_core.proofs.Verdicts.{breaks_none}
 
 -- ---- legal histories, entry by entry
@@ -43,7 +43,7 @@ pub record IsGrown (world : World) (rows : List Row) (running : Running) (e : En
   pub table : after rows e ≡ after_all world longer
   pub progress : after_entry world running e ≡ running_after world longer
 
-grown : (world : World) (h longer : List Entry) (e : Entry) → longer ≡ h ++ e ∷ [] → IsLegal world h → Follows world h → IsVerdictAt world (after_all world h) (running_after world h) e kernel.Legal
+grown : (world : World) (h longer : List Entry) (e : Entry) → longer ≡ h ++ e ∷ [] → IsLegal world h → Follows world h → IsVerdictAt world (after_all world h) (running_after world h) e None
     → IsGrown world (after_all world h) (running_after world h) e longer
 grown world h longer e same legal follows said = record {
   legal = subst (IsLegal world) (sym same) (IsLegalFrom-push (boot world) h e legal said.0);
@@ -53,18 +53,18 @@ grown world h longer e same legal follows said = record {
 }
 
 -- one more entry of which nothing bad is said
-pub grown_there : (world : World) (h longer : List Entry) (e : Entry) (rows : List Row) (running : Running) (v : Verdict) → longer ≡ h ++ e ∷ [] → IsLegal world h → Follows world h
-    → rows ≡ after_all world h → running ≡ running_after world h → IsVerdictAt world rows running e v → v ≡ kernel.Legal → IsGrown world rows running e longer
+pub grown_there : (world : World) (h longer : List Entry) (e : Entry) (rows : List Row) (running : Running) (v : Option Breach) → longer ≡ h ++ e ∷ [] → IsLegal world h → Follows world h
+    → rows ≡ after_all world h → running ≡ running_after world h → IsVerdictAt world rows running e v → v ≡ None → IsGrown world rows running e longer
 grown_there world h longer e rows running v same legal follows table progress said good =
     let said_legal = subst (IsVerdictAt world rows running e) good said in
-    let said_there = subst (λ (t : List Row). IsVerdictAt world t running e kernel.Legal) table said_legal in
-    let said_here = subst (λ (far : Running). IsVerdictAt world (after_all world h) far e kernel.Legal) progress said_there in
+    let said_there = subst (λ (t : List Row). IsVerdictAt world t running e None) table said_legal in
+    let said_here = subst (λ (far : Running). IsVerdictAt world (after_all world h) far e None) progress said_there in
     let there = subst (λ (far : Running). IsGrown world (after_all world h) far e longer) (sym progress) (grown world h longer e same legal follows said_here) in
     subst (λ (t : List Row). IsGrown world t running e longer) (sym table) there
 
 -- ---- no two judgements
 -- a history with an illegal entry is not legal and in order
-illegal_somewhere : (world : World) (h : List Entry) (i : ℕ) (rule : Rule) → IsIllegalAfter world h i rule → IsLegal world h → Follows world h → ⊥
+illegal_somewhere : (world : World) (h : List Entry) (i : ℕ) (rule : Breach) → IsIllegalAfter world h i rule → IsLegal world h → Follows world h → ⊥
 illegal_somewhere world h i rule illegal legal follows =
     breaks_none world (after_all world (take i h)) (running_after world (take i h)) illegal.entry rule
     (IsLegalFrom-at (boot world) h i illegal.entry illegal.next legal) (FollowsFrom-at world (first_running world) h i illegal.entry illegal.next follows) illegal.first.broken
@@ -77,7 +77,7 @@ slice_get-take (x ∷ xs) zero (suc j) below = refl
 slice_get-take (x ∷ xs) (suc i) (suc j) below = slice_get-take xs i j (omega arith)
 
 -- an illegal entry is illegal in each front of the history that it is in
-illegal_in_front : (world : World) (h : List Entry) (i j : ℕ) (rule : Rule) → i < j → IsIllegalAfter world h i rule → IsIllegalAfter world (take j h) i rule
+illegal_in_front : (world : World) (h : List Entry) (i j : ℕ) (rule : Breach) → i < j → IsIllegalAfter world h i rule → IsIllegalAfter world (take j h) i rule
 illegal_in_front world h i j rule below illegal =
     let same : take i (take j h) ≡ take i h = take-take i j h (omega arith) in record {
       entry = illegal.entry;
@@ -88,10 +88,10 @@ illegal_in_front world h i j rule below illegal =
     }
 
 -- nothing comes after the first illegal entry
-no_later : (world : World) (h : List Entry) (i j : ℕ) (rule other : Rule) → IsIllegalAfter world h i rule → IsIllegalAfter world h j other → i < j → ⊥
+no_later : (world : World) (h : List Entry) (i j : ℕ) (rule other : Breach) → IsIllegalAfter world h i rule → IsIllegalAfter world h j other → i < j → ⊥
 no_later world h i j rule other one two below = illegal_somewhere world (take j h) i rule (illegal_in_front world h i j rule below one) two.legal two.follows
 
-place_of-injective : (rule other : Rule) → place_of rule ≡ place_of other → rule ≡ other
+place_of-injective : (rule other : Breach) → place_of rule ≡ place_of other → rule ≡ other
 place_of-injective UnknownProcess UnknownProcess e = refl
 place_of-injective ScriptOrder ScriptOrder e = refl
 place_of-injective SignalFirst SignalFirst e = refl
@@ -100,7 +100,7 @@ place_of-injective WrongEvent WrongEvent e = refl
 place_of-injective _ _ e = absurd (omega arith)
 
 -- an entry breaks one rule first
-one_first_rule : (world : World) (rows : List Row) (running : Running) (e : Entry) (rule other : Rule) → IsFirstRuleAt world rows running e rule → IsFirstRuleAt world rows running e other → rule ≡ other
+one_first_rule : (world : World) (rows : List Row) (running : Running) (e : Entry) (rule other : Breach) → IsFirstRuleAt world rows running e rule → IsFirstRuleAt world rows running e other → rule ≡ other
 one_first_rule world rows running e rule other one two = elim (cases_order (place_of rule) (place_of other)) [
   | inl same ↦ place_of-injective rule other same
   | inr sides ↦ elim sides [
@@ -109,13 +109,13 @@ one_first_rule world rows running e rule other one two = elim (cases_order (plac
   ]
 ]
 
-one_rule : (world : World) (h : List Entry) (i : ℕ) (rule other : Rule) → IsIllegalAfter world h i rule → IsIllegalAfter world h i other → rule ≡ other
+one_rule : (world : World) (h : List Entry) (i : ℕ) (rule other : Breach) → IsIllegalAfter world h i rule → IsIllegalAfter world h i other → rule ≡ other
 one_rule world h i rule other one two =
     let same : two.entry ≡ one.entry = cc (one.next, two.next) in
     one_first_rule world (after_all world (take i h)) (running_after world (take i h)) one.entry rule other one.first
     (subst (λ (e : Entry). IsFirstRule world (take i h) e other) same two.first)
 
-one_place : (world : World) (h : List Entry) (i j : ℕ) (rule other : Rule) → IsIllegalAfter world h i rule → IsIllegalAfter world h j other → i ≡ j
+one_place : (world : World) (h : List Entry) (i j : ℕ) (rule other : Breach) → IsIllegalAfter world h i rule → IsIllegalAfter world h j other → i ≡ j
 one_place world h i j rule other one two = elim (cases_order i j) [
   | inl same ↦ same
   | inr sides ↦ elim sides [

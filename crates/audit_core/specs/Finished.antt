@@ -17,7 +17,7 @@ use Rattle.kernel_rules.specs.Calls.{allows}
 use Rattle.kernel_rules.specs.Events.{can_call}
 use Rattle.kernel_model.specs.Legal.{after_all}
 use Rattle.proc_image.specs.Scripts.{Progress, next_call, stands_again}
-use Rattle.audit_core.specs.Judge.{running_after}
+use Rattle.proc_image.specs.Follows.{running_after}
 
 -- the call began a process of this pid
 abbrev pub is_born : Pid → Call → Reply → Bool

@@ -1,11 +1,11 @@
 // The judge of histories.
-ghost use Rattle.std.specs.Prelude.{◌≡◌, All, IfOk};
+ghost use Rattle.std.specs.Prelude.{◌≡◌, All, IfOk, Ok, None};
 ghost use Rattle.unix_calls.specs.Calls.{EntryHasNames};
 ghost use Rattle.unix_calls.specs.Valid.{IsValid};
 ghost use Rattle.kernel_model.specs.Step.{after};
 ghost use Rattle.kernel_model.specs.Legal.{boot};
 ghost use Rattle.proc_image.specs.Follows.{first_running, after_entry};
-ghost use Rattle.audit_core.specs.Judge.{IsJudged, IsVerdictAt, with_order};
+ghost use Rattle.audit_core.specs.Judge.{IsJudged, IsVerdictAt, breach_of, with_order, rule_text};
 ghost use Rattle.audit_core.specs.Table.{running_of, IsKept};
 
 use crate::scripts::{first_images, is_in_order, move_on};
@@ -16,13 +16,43 @@ use std::alloc::Global;
 use unix_calls::{Entry, World};
 use unix_names::NoMemory;
 
+/// A rule of a history that an entry breaks. They are asked in this order, and the first that is broken is told.
+#[derive(Clone, Copy, Debug, PartialEq, Eq)]
+pub enum Breach {
+    /// The process has no row, or has ended.
+    UnknownProcess,
+    /// The call isn't the next statement of the process's script.
+    ScriptOrder,
+    /// A process that calls, or is moved, is stopped or has something deliverable.
+    SignalFirst,
+    /// The reply isn't one that the call may get.
+    WrongReply,
+    /// The event may not happen.
+    WrongEvent,
+}
+
+impl Breach {
+    /// The words by which it is told.
+    pub fn text(self) -> &'static str
+        ensures { result.now ≡ rule_text self }
+    {
+        match self {
+            Breach::UnknownProcess => "unknown process",
+            Breach::ScriptOrder => "script order",
+            Breach::SignalFirst => "signal first",
+            Breach::WrongReply => "reply",
+            Breach::WrongEvent => "event",
+        }
+    }
+}
+
 /// What is said of a history.
 #[derive(Clone, Copy, Debug, PartialEq, Eq)]
 pub enum Judged {
     /// Each entry is legal for the one kernel, and each call is its process's next statement.
     Legal,
     /// The number of the first entry that breaks a rule, counted from 1, with the first rule that it breaks.
-    IllegalAt(u64, Rule),
+    IllegalAt(u64, Breach),
 }
 
 /// The kernel and the images of all processes, as they are after the entries that were judged so far.
@@ -43,8 +73,8 @@ pub fn audit(alloc: Global, world: &World, entries: &[Entry]) -> Result<Judged, 
     let mut judge = Judge::begin(alloc, world)?;
     for (i, entry) in entries.iter().enumerate() {
         match judge.step(alloc, world, entry)? {
-            Verdict::Legal => {}
-            Verdict::Illegal(rule) => return Ok(Judged::IllegalAt(i as u64 + 1, rule)),
+            None => {}
+            Some(breach) => return Ok(Judged::IllegalAt(i as u64 + 1, breach)),
         }
     }
     Ok(Judged::Legal)
@@ -64,32 +94,44 @@ impl Judge {
     }
 
     /// Judges the next entry, and takes it in where it breaks no rule. An illegal entry ends the judgement: the judge is of no use afterwards.
-    fn step(&mut self, alloc: Global, world: &World, entry: &Entry) -> Result<Verdict, NoMemory>
+    fn step(&mut self, alloc: Global, world: &World, entry: &Entry) -> Result<Option<Breach>, NoMemory>
         requires valid { IsValid world.now }
         requires names { EntryHasNames entry.now }
         requires kept { IsKept world.now self.old.images }
         ensures verdict { IfOk result (IsVerdictAt world.now self.old.kernel (running_of self.old.images) entry.now) }
-        ensures kernel { result ≡ Ok Verdict.Legal → self.new.kernel ≡ after self.old.kernel entry.now }
-        ensures running { result ≡ Ok Verdict.Legal → running_of self.new.images ≡ after_entry world.now (running_of self.old.images) entry.now }
-        ensures kept { result ≡ Ok Verdict.Legal → IsKept world.now self.new.images }
+        ensures kernel { result ≡ Ok None → self.new.kernel ≡ after self.old.kernel entry.now }
+        ensures running { result ≡ Ok None → running_of self.new.images ≡ after_entry world.now (running_of self.old.images) entry.now }
+        ensures kept { result ≡ Ok None → IsKept world.now self.new.images }
     {
         let in_order = is_in_order(&self.images, world, entry);
         let told = self.kernel.step(entry)?;
-        let verdict = with_order(in_order, told);
-        if let Verdict::Legal = verdict {
+        let breach = with_order(in_order, told);
+        if breach.is_none() {
             move_on(&mut self.images, alloc, world, entry)?;
         }
-        Ok(verdict)
+        Ok(breach)
     }
 }
 
-// The kernel's verdict, with the order of the script asked right after the process.
-fn with_order(in_order: bool, told: Verdict) -> Verdict
+fn breach_of(rule: Rule) -> Breach
+    ensures { result ≡ breach_of rule }
+{
+    match rule {
+        Rule::UnknownProcess => Breach::UnknownProcess,
+        Rule::SignalFirst => Breach::SignalFirst,
+        Rule::WrongReply => Breach::WrongReply,
+        Rule::WrongEvent => Breach::WrongEvent,
+    }
+}
+
+// What the kernel says, with the order of the script asked right after the process.
+fn with_order(in_order: bool, told: Verdict) -> Option<Breach>
     ensures { result ≡ with_order in_order told }
 {
     match told {
-        Verdict::Illegal(Rule::UnknownProcess) => told,
-        _ if in_order => told,
-        _ => Verdict::Illegal(Rule::ScriptOrder),
+        Verdict::Illegal(Rule::UnknownProcess) => Some(Breach::UnknownProcess),
+        _ if !in_order => Some(Breach::ScriptOrder),
+        Verdict::Legal => None,
+        Verdict::Illegal(rule) => Some(breach_of(rule)),
     }
 }

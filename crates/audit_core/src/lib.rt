@@ -8,7 +8,7 @@ mod scripts;
 #[cfg(test)]
 mod tests;
 
-pub use judge::{Judged, audit};
+pub use judge::{Breach, Judged, audit};
 
 /// A history has one judgement: it isn't legal and illegal too, and no two entries are the first illegal one, nor two rules the first that it breaks.
 pub fn judgements_are_single()

@@ -2,8 +2,7 @@
 ghost use Rattle.std.specs.Prelude.{IsTrue, All};
 ghost use Rattle.unix_calls.specs.Calls.{IsName, EntryHasNames};
 
-use crate::{Judged, audit};
-use kernel_model::Rule;
+use crate::{Breach, Judged, audit};
 use std::alloc::{AllocError, Global};
 use std::process::Abort;
 use std::test::Fail;
@@ -163,7 +162,7 @@ fn a_wait_for_the_low_eight_bits(rt: HostRuntime) -> Result<(), Fail> {
         alloc,
         &world,
         &exchanged,
-        Judged::IllegalAt(1, Rule::ScriptOrder),
+        Judged::IllegalAt(1, Breach::ScriptOrder),
     )?;
     let other_status = [
         forks(3),
@@ -177,7 +176,7 @@ fn a_wait_for_the_low_eight_bits(rt: HostRuntime) -> Result<(), Fail> {
         alloc,
         &world,
         &other_status,
-        Judged::IllegalAt(4, Rule::WrongReply),
+        Judged::IllegalAt(4, Breach::WrongReply),
     )?;
     let moves_on = [forks(3), waits(Reply::Again), exits(2, 0)];
     expect(
@@ -185,7 +184,7 @@ fn a_wait_for_the_low_eight_bits(rt: HostRuntime) -> Result<(), Fail> {
         alloc,
         &world,
         &moves_on,
-        Judged::IllegalAt(3, Rule::ScriptOrder),
+        Judged::IllegalAt(3, Breach::ScriptOrder),
     )?;
     let ended = [forks(3), exits(3, 263), exits(3, 263)];
     expect(
@@ -193,7 +192,7 @@ fn a_wait_for_the_low_eight_bits(rt: HostRuntime) -> Result<(), Fail> {
         alloc,
         &world,
         &ended,
-        Judged::IllegalAt(3, Rule::UnknownProcess),
+        Judged::IllegalAt(3, Breach::UnknownProcess),
     )?;
     let nobody = [exits(4, 0), exits(2, 0)];
     expect(
@@ -201,7 +200,7 @@ fn a_wait_for_the_low_eight_bits(rt: HostRuntime) -> Result<(), Fail> {
         alloc,
         &world,
         &nobody,
-        Judged::IllegalAt(1, Rule::UnknownProcess),
+        Judged::IllegalAt(1, Breach::UnknownProcess),
     )?;
     let not_due = [forks(3), happened(3, Event::Continued)];
     expect(
@@ -209,7 +208,7 @@ fn a_wait_for_the_low_eight_bits(rt: HostRuntime) -> Result<(), Fail> {
         alloc,
         &world,
         &not_due,
-        Judged::IllegalAt(2, Rule::WrongEvent),
+        Judged::IllegalAt(2, Breach::WrongEvent),
     )
 }
 
@@ -229,14 +228,14 @@ fn a_signal_comes_before_the_next_call(rt: HostRuntime) -> Result<(), Fail> {
         alloc,
         &world,
         &[kills(), names()],
-        Judged::IllegalAt(2, Rule::SignalFirst),
+        Judged::IllegalAt(2, Breach::SignalFirst),
     )?;
     expect(
         &rt,
         alloc,
         &world,
         &[kills(), kills()],
-        Judged::IllegalAt(2, Rule::ScriptOrder),
+        Judged::IllegalAt(2, Breach::ScriptOrder),
     )?;
     let ends = happened(2, Event::EndedBy(Signal::Hup));
     expect(&rt, alloc, &world, &[kills(), ends], Judged::Legal)

@@ -4,10 +4,9 @@ use Rattle.std.specs.Fmt.{decimal}
 use Rattle.byte_ends.specs.Text.{lines}
 use Rattle.unix_calls.specs.declared.Entry.{Entry}
 use Rattle.unix_calls.specs.declared.World.{World}
-use Rattle.kernel_model.specs.declared.verdict.Rule.{Rule}
-use Rattle.kernel_model.specs.declared.verdict.Rule.TheVariants.{UnknownProcess, ScriptOrder, SignalFirst, WrongReply, WrongEvent}
+use Rattle.audit_core.specs.declared.Breach.{Breach}
 use Rattle.audit_core.specs.declared.judge.Judged.TheVariants as judged
-use Rattle.audit_core.specs.Judge.{IsJudged}
+use Rattle.audit_core.specs.Judge.{IsJudged, rule_text}
 use Rattle.file_parts.specs.Parts.{Lines, front_lines, history_lines}
 use Rattle.histories.specs.Reading.{IsHistory, IsFirstBad}
 use Rattle.cluster_cli.specs.declared.status.Status.{Status}
@@ -21,15 +20,7 @@ abbrev pub HasHistory : Option Lines → List Entry → Type 0
 HasHistory None entries = entries ≡ []
 HasHistory (Some ls) entries = IsHistory ls entries
 
--- the words by which a broken rule is told
-abbrev pub rule_text : Rule → List ℕ
-rule_text UnknownProcess = codes "unknown process"
-rule_text ScriptOrder = codes "script order"
-rule_text SignalFirst = codes "signal first"
-rule_text WrongReply = codes "reply"
-rule_text WrongEvent = codes "event"
-
-abbrev pub illegal_text : ℕ → Rule → List ℕ
+abbrev pub illegal_text : ℕ → Breach → List ℕ
 illegal_text number rule = codes "illegal at " ++ (decimal number ++ (codes ": " ++ (rule_text rule ++ codes "\n")))
 
 abbrev pub bad_line_text : ℕ → List ℕ
@@ -43,7 +34,7 @@ HasBadLine (Some ls) number line = IsFirstBad ls number line
 -- what is said of a history of a world, by the status
 abbrev pub IsVerdict : World → List Entry → Status → List ℕ → Type 0
 IsVerdict world entries Done output = IsJudged world entries judged.Legal × (output ≡ codes "legal\n")
-IsVerdict world entries Illegal output = (number : ℕ) × (rule : Rule) × IsJudged world entries (judged.IllegalAt number rule) × (output ≡ illegal_text number rule)
+IsVerdict world entries Illegal output = (number : ℕ) × (rule : Breach) × IsJudged world entries (judged.IllegalAt number rule) × (output ≡ illegal_text number rule)
 IsVerdict world entries _ output = ⊥
 
 -- a history with the verdict on it: it is legal for the one kernel and in its scripts' order, or its first entry that isn't breaks this rule first

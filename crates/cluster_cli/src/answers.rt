@@ -6,7 +6,7 @@ ghost use Rattle.cluster_cli.specs.Ends.{HasText, input_limit};
 ghost use Rattle.cluster_cli.specs.Input.{fault_text, Means};
 ghost use Rattle.cluster_cli.specs.Replay.{run_text, Replays};
 ghost use Rattle.cluster_cli.specs.Reading.{AreParts};
-ghost use Rattle.cluster_cli.specs.Audit.{HasHistory, HasBadLine, bad_line_text, illegal_text, rule_text, IsVerdict, Audits};
+ghost use Rattle.cluster_cli.specs.Audit.{HasHistory, HasBadLine, bad_line_text, illegal_text, IsVerdict, Audits};
 ghost use Rattle.byte_ends.specs.Text.{lines};
 ghost use Rattle.file_parts.specs.Parts.{IsPartOf, front_lines, history_lines};
 ghost use Rattle.unix_calls.specs.Calls.{EntryHasNames};
@@ -14,11 +14,10 @@ ghost use Rattle.unix_calls.specs.Valid.{IsValid};
 
 use crate::input::{Given, read_given, read_runnable};
 use crate::status::Status;
-use audit_core::{Judged, audit as judge};
+use audit_core::{Breach, Judged, audit as judge};
 use solo_core::run;
 use file_parts::{Parts, Span, split};
 use histories::{TextRefusal, read_history};
-use kernel_model::Rule;
 use run_text::put_history;
 use script_words::{Fault, ReadRefusal};
 use std::alloc::{AllocError, Global};
@@ -157,7 +156,7 @@ fn bad_line(alloc: Global, line: u32) -> Result<Answer, NoMemory>
     })
 }
 
-fn illegal(alloc: Global, number: u64, rule: Rule) -> Result<Answer, NoMemory>
+fn illegal(alloc: Global, number: u64, rule: Breach) -> Result<Answer, NoMemory>
     ensures illegal { IfOk result (λ a. a.status ≡ Status.Illegal) }
     ensures text { IfOk result (λ a. a.text.items ≡ illegal_text number rule) }
 {
@@ -178,26 +177,14 @@ fn bad_text(alloc: Global, line: u32) -> Result<Vec<u8>, AllocError>
     Ok(text.into_bytes())
 }
 
-fn illegal_text(alloc: Global, number: u64, rule: Rule) -> Result<Vec<u8>, AllocError>
+fn illegal_text(alloc: Global, number: u64, rule: Breach) -> Result<Vec<u8>, AllocError>
     ensures { IfOk result (λ text. text.items ≡ illegal_text number rule) }
 {
     let mut text = String::new(alloc);
     text.push_str("illegal at ")?;
     write!(text, "{number}")?;
     text.push_str(": ")?;
-    text.push_str(rule_text(rule))?;
+    text.push_str(rule.text())?;
     text.push_str("\n")?;
     Ok(text.into_bytes())
-}
-
-fn rule_text(rule: Rule) -> &'static str
-    ensures { result.now ≡ rule_text rule }
-{
-    match rule {
-        Rule::UnknownProcess => "unknown process",
-        Rule::ScriptOrder => "script order",
-        Rule::SignalFirst => "signal first",
-        Rule::WrongReply => "reply",
-        Rule::WrongEvent => "event",
-    }
 }

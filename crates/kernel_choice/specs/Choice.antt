@@ -19,27 +19,39 @@ use Rattle.process_table.specs.declared.Row.{Row}
 use Rattle.process_table.specs.Rows.{row_named}
 use Rattle.kernel_rules.specs.Calls.{refusal}
 use Rattle.kernel_rules.specs.Wait.{report_of, is_ready_match}
-use Rattle.kernel_rules.specs.Events.{is_deliverable, is_caught, is_discarded, stops}
+use Rattle.kernel_rules.specs.Events.{is_deliverable_in, is_caught_in, is_discarded_in, stops_in}
+use Rattle.process_table.specs.Orphans.{is_orphaned}
+use Rattle.signal_state.specs.Signals.{Signals}
 
--- ---- events
+-- ---- events, from the process's signals and whether its group is orphaned
 -- what a deliverable signal does
-abbrev pub event_of : List Row → Row → Signal → Event
-event_of rows r s =
-    if is_caught r s then Caught s
-    else (if is_discarded rows r s then Discarded s
-    else (if stops rows r s then StoppedBy s
+abbrev pub event_in : Signals → Bool → Signal → Event
+event_in x orphaned s =
+    if is_caught_in x s then Caught s
+    else (if is_discarded_in x orphaned s then Discarded s
+    else (if stops_in x orphaned s then StoppedBy s
     else EndedBy s))
 
 -- the deliverable signal with the least number
-abbrev pub least_deliverable : Row → Option Signal
-least_deliverable r = find (is_deliverable r) all_signals
+abbrev pub least_in : Signals → Option Signal
+least_in x = find (is_deliverable_in x) all_signals
 
 -- killing comes first, then continuing, then the deliverable signals in order of number
+abbrev pub first_event_of : Signals → Bool → Option Event
+first_event_of x orphaned =
+    if is_deliverable_in x signal.Kill then Some (EndedBy signal.Kill)
+    else (if x.due then Some Continued
+    else option_map (event_in x orphaned) (least_in x))
+
+-- ---- the same of the process of row r
+abbrev pub event_of : List Row → Row → Signal → Event
+event_of rows r s = event_in r.sig (is_orphaned rows r.group) s
+
+abbrev pub least_deliverable : Row → Option Signal
+least_deliverable r = least_in r.sig
+
 abbrev pub first_event : List Row → Row → Option Event
-first_event rows r =
-    if is_deliverable r signal.Kill then Some (EndedBy signal.Kill)
-    else (if r.sig.due then Some Continued
-    else option_map (event_of rows r) (least_deliverable r))
+first_event rows r = first_event_of r.sig (is_orphaned rows r.group)
 
 -- ---- replies
 -- the group of a row that there is

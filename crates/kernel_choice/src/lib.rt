@@ -5,7 +5,7 @@ mod events;
 mod laws;
 mod replies;
 
-pub use events::first_event;
+pub use events::{first_event, first_event_of};
 pub use laws::{chosen_event, chosen_reply};
 pub use replies::reply_of;
 

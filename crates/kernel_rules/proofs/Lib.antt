@@ -3,3 +3,4 @@ pub mod EndLaws
 pub mod NearLaws
 pub mod ReachLaws
 pub mod SentLaws
+pub mod SparedLaws

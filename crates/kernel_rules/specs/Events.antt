@@ -9,6 +9,7 @@ use Rattle.unix_names.specs.declared.Signal.TheVariants.{Stop, Tstp, Ttin, Ttou}
 use Rattle.unix_names.specs.declared.WaitStatus.TheVariants as status
 use Rattle.unix_calls.specs.declared.Event.{Event}
 use Rattle.unix_calls.specs.declared.Event.TheVariants.{Caught, Continued, Discarded, EndedBy, Moved, StoppedBy}
+use Rattle.signal_state.specs.Signals.{Signals}
 use Rattle.signal_state.specs.Sig.{deliverable, is_dropped_by_default}
 use Rattle.process_table.specs.Changes.{continued_at, delivered_at, received, sent_nothing, stopped_at}
 use Rattle.process_table.specs.Orphans.{is_orphaned}
@@ -20,20 +21,20 @@ use Rattle.kernel_rules.specs.Ending.{after_end, sent_by_end, sent_to_parent}
 abbrev pub can_call : Row → Bool
 can_call r = not r.sig.stopped && (deliverable r.sig == 0)
 
--- ---- what a signal does
-abbrev pub is_deliverable : Row → Signal → Bool
-is_deliverable r s = has (deliverable r.sig) s
+-- ---- what a signal does, from the process's signals and whether its group is orphaned
+abbrev pub is_deliverable_in : Signals → Signal → Bool
+is_deliverable_in x s = has (deliverable x) s
 
 -- the action is neither to ignore the signal nor to catch it
-abbrev pub has_default_action : Row → Signal → Bool
-has_default_action r s = not (has r.sig.ignored s) && not (has r.sig.caught s)
+abbrev pub has_default_action_in : Signals → Signal → Bool
+has_default_action_in x s = not (has x.ignored s) && not (has x.caught s)
 
 -- the signal is deliverable, and its action is the default
-abbrev pub acts_by_default : Row → Signal → Bool
-acts_by_default r s = is_deliverable r s && has_default_action r s
+abbrev pub acts_by_default_in : Signals → Signal → Bool
+acts_by_default_in x s = is_deliverable_in x s && has_default_action_in x s
 
-abbrev pub is_caught : Row → Signal → Bool
-is_caught r s = is_deliverable r s && has r.sig.caught s
+abbrev pub is_caught_in : Signals → Signal → Bool
+is_caught_in x s = is_deliverable_in x s && has x.caught s
 
 abbrev pub is_stop_act : DefaultAct → Bool
 is_stop_act StopIt = true
@@ -51,21 +52,49 @@ abbrev pub is_plain_stop : Signal → Bool
 is_plain_stop s = number_of s == number_of Stop
 
 -- a stop signal from a terminal is deliverable
-abbrev pub has_terminal_stop : Row → Bool
-has_terminal_stop r = is_deliverable r Tstp || (is_deliverable r Ttin || is_deliverable r Ttou)
+abbrev pub has_terminal_stop_in : Signals → Bool
+has_terminal_stop_in x = is_deliverable_in x Tstp || (is_deliverable_in x Ttin || is_deliverable_in x Ttou)
 
 -- a stop signal from a terminal, which an orphaned group is spared
+abbrev pub is_spared_in : Bool → Signal → Bool
+is_spared_in orphaned s = is_stop_signal s && (not (is_plain_stop s) && orphaned)
+
+abbrev pub is_discarded_in : Signals → Bool → Signal → Bool
+is_discarded_in x orphaned s = acts_by_default_in x s && (is_dropped_by_default s || is_spared_in orphaned s)
+
+abbrev pub stops_in : Signals → Bool → Signal → Bool
+stops_in x orphaned s = acts_by_default_in x s && (is_stop_signal s && (is_plain_stop s || not orphaned))
+
+abbrev pub ends_in : Signals → Signal → Bool
+ends_in x s = acts_by_default_in x s && is_end_act (default_of s)
+
+-- ---- the same of the process of row r
+abbrev pub is_deliverable : Row → Signal → Bool
+is_deliverable r s = is_deliverable_in r.sig s
+
+abbrev pub has_default_action : Row → Signal → Bool
+has_default_action r s = has_default_action_in r.sig s
+
+abbrev pub acts_by_default : Row → Signal → Bool
+acts_by_default r s = acts_by_default_in r.sig s
+
+abbrev pub is_caught : Row → Signal → Bool
+is_caught r s = is_caught_in r.sig s
+
+abbrev pub has_terminal_stop : Row → Bool
+has_terminal_stop r = has_terminal_stop_in r.sig
+
 abbrev pub is_spared : List Row → Row → Signal → Bool
-is_spared rows r s = is_stop_signal s && (not (is_plain_stop s) && is_orphaned rows r.group)
+is_spared rows r s = is_spared_in (is_orphaned rows r.group) s
 
 abbrev pub is_discarded : List Row → Row → Signal → Bool
-is_discarded rows r s = acts_by_default r s && (is_dropped_by_default s || is_spared rows r s)
+is_discarded rows r s = is_discarded_in r.sig (is_orphaned rows r.group) s
 
 abbrev pub stops : List Row → Row → Signal → Bool
-stops rows r s = acts_by_default r s && (is_stop_signal s && (is_plain_stop s || not (is_orphaned rows r.group)))
+stops rows r s = stops_in r.sig (is_orphaned rows r.group) s
 
 abbrev pub ends : Row → Signal → Bool
-ends r s = acts_by_default r s && is_end_act (default_of s)
+ends r s = ends_in r.sig s
 
 -- ---- what may happen
 -- the event may happen to the process of row r

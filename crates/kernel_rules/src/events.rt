@@ -3,11 +3,11 @@ ghost use Rattle.std.specs.Prelude.{◌≡◌, map, OnOk, OnErr};
 ghost use Rattle.process_table.specs.Rows.{row_of};
 ghost use Rattle.process_table.specs.Changes.{changed_at, IsAllowed, received};
 ghost use Rattle.kernel_rules.specs.Ending.{sent_to_parent};
-ghost use Rattle.kernel_rules.specs.Events.{can_call, is_deliverable, has_default_action, acts_by_default, is_caught, is_stop_signal, is_plain_stop, has_terminal_stop, is_spared, is_discarded, stops, ends, may_happen, after_event};
+ghost use Rattle.kernel_rules.specs.Events.{can_call, is_deliverable_in, has_default_action_in, acts_by_default_in, is_caught_in, is_stop_signal, is_plain_stop, has_terminal_stop, is_spared_in, is_spared, is_discarded_in, stops_in, ends_in, may_happen, after_event};
 
 use crate::ending::{end, signal_parent};
 use process_table::{Change, ProcessTable, Row};
-use signal_state::is_ignored_by_default;
+use signal_state::{Sig, is_ignored_by_default};
 use unix_calls::Event;
 use unix_names::{DefaultAct, NoMemory, Pid, Signal, WaitStatus, default_of};
 
@@ -18,17 +18,17 @@ pub fn can_call(row: &Row) -> bool
     !row.sig.stopped && row.sig.deliverable().is_empty()
 }
 
-fn acts_by_default(row: &Row, signal: Signal) -> bool
-    ensures { result ≡ acts_by_default row.now signal }
+fn acts_by_default(sig: &Sig, signal: Signal) -> bool
+    ensures { result ≡ acts_by_default_in sig.now signal }
 {
-    row.sig.deliverable().has(signal) && !row.sig.ignored.has(signal) && !row.sig.caught.has(signal)
+    sig.deliverable().has(signal) && !sig.ignored.has(signal) && !sig.caught.has(signal)
 }
 
 /// Whether a signal is deliverable to a process and its action is to catch it.
-pub fn is_caught(row: &Row, signal: Signal) -> bool
-    ensures { result ≡ is_caught row.now signal }
+pub fn is_caught(sig: &Sig, signal: Signal) -> bool
+    ensures { result ≡ is_caught_in sig.now signal }
 {
-    row.sig.deliverable().has(signal) && row.sig.caught.has(signal)
+    sig.deliverable().has(signal) && sig.caught.has(signal)
 }
 
 fn is_stop_signal(signal: Signal) -> bool
@@ -57,44 +57,46 @@ pub fn look_up(table: &mut ProcessTable, pid: Pid) -> Option<Row>
     Some(row)
 }
 
-/// Whether a stop signal from a terminal comes to a member of an orphaned group.
+/// Whether a signal is deliverable and its default action does nothing to a process whose group is orphaned, or isn't.
+pub fn is_discarded(sig: &Sig, orphaned: bool, signal: Signal) -> bool
+    ensures { result ≡ is_discarded_in sig.now orphaned signal }
+{
+    let is_spared = is_stop_signal(signal) && signal != Signal::Stop && orphaned;
+    acts_by_default(sig, signal) && (is_ignored_by_default(signal) || is_spared)
+}
+
+/// Whether a signal is deliverable and its default action stops the process. A stop signal from a terminal stops no member of an orphaned group.
+pub fn stops(sig: &Sig, orphaned: bool, signal: Signal) -> bool
+    ensures { result ≡ stops_in sig.now orphaned signal }
+{
+    acts_by_default(sig, signal)
+        && is_stop_signal(signal)
+        && (signal == Signal::Stop || !orphaned)
+}
+
+fn ends(sig: &Sig, signal: Signal) -> bool
+    ensures { result ≡ ends_in sig.now signal }
+{
+    acts_by_default(sig, signal) && matches!(default_of(signal), DefaultAct::End)
+}
+
+/// Whether the signal is a stop signal from a terminal and the process's group is orphaned.
 fn is_spared(table: &ProcessTable, row: &Row, signal: Signal) -> bool
     ensures { result ≡ is_spared table.now row.now signal }
 {
     is_stop_signal(signal) && signal != Signal::Stop && table.is_orphaned(row.group)
 }
 
-/// Whether a signal is deliverable to a process and its default action does nothing there.
-pub fn is_discarded(table: &ProcessTable, row: &Row, signal: Signal) -> bool
-    ensures { result ≡ is_discarded table.now row.now signal }
-{
-    acts_by_default(row, signal) && (is_ignored_by_default(signal) || is_spared(table, row, signal))
-}
-
-/// Whether a signal is deliverable to a process and its default action stops it. A stop signal from a terminal stops no member of an orphaned group.
-pub fn stops(table: &ProcessTable, row: &Row, signal: Signal) -> bool
-    ensures { result ≡ stops table.now row.now signal }
-{
-    acts_by_default(row, signal)
-        && is_stop_signal(signal)
-        && (signal == Signal::Stop || !table.is_orphaned(row.group))
-}
-
-fn ends(row: &Row, signal: Signal) -> bool
-    ensures { result ≡ ends row.now signal }
-{
-    acts_by_default(row, signal) && matches!(default_of(signal), DefaultAct::End)
-}
-
 /// Whether an event may happen to a process.
+#[tactic(auto, using(crate::proofs::SparedLaws::discarded_same, crate::proofs::SparedLaws::stops_same))]
 pub fn may_happen(table: &ProcessTable, row: &Row, event: Event) -> bool
     ensures { result ≡ may_happen table.now row.now event }
 {
     match event {
-        Event::Caught(signal) => is_caught(row, signal),
-        Event::Discarded(signal) => is_discarded(table, row, signal),
-        Event::StoppedBy(signal) => stops(table, row, signal),
-        Event::EndedBy(signal) => ends(row, signal),
+        Event::Caught(signal) => is_caught(&row.sig, signal),
+        Event::Discarded(signal) => is_discarded(&row.sig, is_spared(table, row, signal), signal),
+        Event::StoppedBy(signal) => stops(&row.sig, is_spared(table, row, signal), signal),
+        Event::EndedBy(signal) => ends(&row.sig, signal),
         Event::Continued => row.sig.due,
         Event::Moved => can_call(row),
     }

@@ -4,31 +4,8 @@ use Rattle.std.specs.List.{last_or}
 use Rattle.unix_names.specs.declared.Pid.{Pid}
 use Rattle.ordered_table.specs.declared.entries.Entry.{Entry}
 use Rattle.ordered_table.specs.Entries.{pids_of, AllAbove, AllUpTo, IsRising}
+use Rattle.ordered_table.proofs.RisingLaws.{above-at}
 use Rattle.ordered_table.specs.Places.{place, IsFoundAt, IsVacantAt}
-
--- an id below all the entries is below each
-above-at : {T : Type 0} (p : Pid) (es : List (Entry T)) (j : ℕ) (d : Entry T) → AllAbove p es → j < length es → p.0 < (get_or es j d).pid.0
-above-at p [] j d a lt = absurd (omega arith)
-above-at p (e ∷ es) zero d a lt = a.0
-above-at p (e ∷ es) (suc j) d a lt = above-at p es j d a.1 (omega arith)
-
--- rising ids do not fall
-pub IsNonDecreasingBy-rising : {T : Type 0} (es : List (Entry T)) → IsRising es → (i j : ℕ) (d : Entry T) → i ≤ j → j < length es → (get_or es i d).pid.0 ≤ (get_or es j d).pid.0
-IsNonDecreasingBy-rising [] r i j d le lt = absurd (omega arith)
-IsNonDecreasingBy-rising (e ∷ es) r zero zero d le lt = omega arith
-IsNonDecreasingBy-rising (e ∷ es) r zero (suc j) d le lt = let a = above-at e.pid es j d r.0 (omega arith) in omega arith
-IsNonDecreasingBy-rising (e ∷ es) r (suc i) zero d le lt = absurd (omega arith)
-IsNonDecreasingBy-rising (e ∷ es) r (suc i) (suc j) d le lt = IsNonDecreasingBy-rising es r.1 i j d (omega arith) (omega arith)
-
--- the place is where the ids stop being lesser
-pub place-from_point : {T : Type 0} (es : List (Entry T)) (p : Pid) (i : ℕ) → i ≤ length es →
-    ((k : ℕ) (d : Entry T) → k < i → nat_lt (get_or es k d).pid.0 p.0 ≡ true) →
-    ((d : Entry T) → i < length es → nat_lt (get_or es i d).pid.0 p.0 ≡ false) → i ≡ place es p
-place-from_point [] p zero le below from = refl
-place-from_point [] p (suc i) le below from = absurd (omega arith)
-place-from_point (e ∷ es) p zero le below from = rw (from e (omega arith)) refl
-place-from_point (e ∷ es) p (suc i) le below from =
-    rw (below zero e (omega arith)) (ap suc (place-from_point es p i (omega arith) (λ k d lt. below (suc k) d (omega arith)) (λ d lt. from d (omega arith))))
 
 found-later : {T : Type 0} (e : Entry T) (es : List (Entry T)) (p : Pid) (i : ℕ) → nat_lt e.pid.0 p.0 ≡ true → IsFoundAt es p i → IsFoundAt (e ∷ es) p (suc i)
 found-later e es p i less h = record {
@@ -108,5 +85,5 @@ AllUpTo-last (e ∷ []) zero d at r = (omega arith, tt)
 AllUpTo-last (e ∷ []) (suc i) d at r = absurd (omega arith)
 AllUpTo-last (e ∷ f ∷ es) zero d at r = absurd (omega arith)
 AllUpTo-last (e ∷ f ∷ es) (suc i) d at r =
-    let above = above-at e.pid (f ∷ es) i d r.0 (omega arith) in
+    let above = above-at (λ (x : Entry _). x.pid.0) e.pid.0 (f ∷ es) i d r.0 (omega arith) in
     (omega arith, AllUpTo-last (f ∷ es) i d (omega arith) r.1)

@@ -2,6 +2,7 @@
 use Rattle.std.specs.Prelude.{◌≡◌, ◌≢◌, ℕ, slice_get, slice_set, ◌<◌, ◌≤◌, ◌==◌, nat_lt, is_some, Bool, List, [], ◌∷◌, map, Option, Some, None, if◌then◌else◌}
 use Rattle.unix_names.specs.declared.Pid.{Pid}
 use Rattle.ordered_table.specs.declared.entries.Entry.{Entry}
+use Rattle.ordered_table.specs.Rising.{AllAboveBy, IsRisingBy}
 
 -- the value of an id, if it has one; the search ends at a greater id
 abbrev pub value_at : {T : Type 0} → List (Entry T) → Pid → Option T
@@ -34,8 +35,7 @@ pids_of es = map (λ e. e.pid) es
 
 -- every id is above p
 abbrev pub AllAbove : {T : Type 0} → Pid → List (Entry T) → Type 0
-AllAbove p [] = Unit {0}
-AllAbove p (e ∷ es) = (p.0 < e.pid.0) × AllAbove p es
+AllAbove {T} p es = AllAboveBy (λ (e : Entry T). e.pid.0) p.0 es
 
 -- no id is above p
 abbrev pub AllUpTo : {T : Type 0} → Pid → List (Entry T) → Type 0
@@ -44,8 +44,7 @@ AllUpTo p (e ∷ es) = (e.pid.0 ≤ p.0) × AllUpTo p es
 
 -- the ids rise strictly
 abbrev pub IsRising : {T : Type 0} → List (Entry T) → Type 0
-IsRising [] = Unit {0}
-IsRising (e ∷ es) = AllAbove e.pid es × IsRising es
+IsRising {T} es = IsRisingBy (λ (e : Entry T). e.pid.0) es
 
 -- every id but p has the same value before and after
 abbrev pub SameElsewhere : {T : Type 0} → Pid → List (Entry T) → List (Entry T) → Type 0

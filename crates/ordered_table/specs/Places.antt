@@ -2,12 +2,12 @@
 use Rattle.std.specs.Prelude.{ℕ, zero, suc, ◌≡◌, ◌<◌, ◌≤◌, nat_lt, List, [], ◌∷◌, length, slice_index_or, slice_set, insert, remove, Some, None, if◌then◌else◌}
 use Rattle.unix_names.specs.declared.Pid.{Pid}
 use Rattle.ordered_table.specs.declared.entries.Entry.{Entry}
+use Rattle.ordered_table.specs.Rising.{place_by}
 use Rattle.ordered_table.specs.Entries.{value_at, with_value, without}
 
 -- how many of the first entries have a lesser id
 abbrev pub place : {T : Type 0} → List (Entry T) → Pid → ℕ
-place [] p = zero
-place (e ∷ es) p = if nat_lt e.pid.0 p.0 then suc (place es p) else zero
+place {T} es p = place_by (λ (e : Entry T). e.pid.0) es p.0
 
 -- the id's entry is the one at i
 pub record IsFoundAt {T : Type 0} (es : List (Entry T)) (p : Pid) (i : ℕ) : Type 0 where

@@ -48,6 +48,10 @@ after_entry world running (Happened pid event) = running
 abbrev pub after_entries : World → Running → List Entry → Running
 after_entries world running history = fold (after_entry world) running history
 
+-- how far each process is after a history of the world
+abbrev pub running_after : World → List Entry → Running
+running_after world history = after_entries world (first_running world) history
+
 abbrev pub AsksNext : World → Pid → Call → Option Progress → Type 0
 AsksNext world caller call None = ⊥
 AsksNext world caller call (Some at) = call ≡ next_call world caller at

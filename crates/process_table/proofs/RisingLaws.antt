@@ -5,31 +5,6 @@ use Rattle.process_table.specs.declared.rows.Row.{Row}
 use Rattle.process_table.specs.Rows.{is_pid, row_of}
 use Rattle.process_table.specs.MethodIndex.{AllAbove, IsRising, place, is_next}
 
--- ---- the place of a pid
--- a pid below those of all rows is below each
-pub above-at : (p : Pid) (rows : List Row) (j : ℕ) (d : Row) → AllAbove p rows → j < length rows → p.0 < (get_or rows j d).pid.0
-above-at p [] j d a lt = absurd (omega arith)
-above-at p (c ∷ rows) zero d a lt = a.0
-above-at p (c ∷ rows) (suc j) d a lt = above-at p rows j d a.1 (omega arith)
-
--- rising pids do not fall
-pub IsNonDecreasingBy-rising : (rows : List Row) → IsRising rows → (i j : ℕ) (d : Row) → i ≤ j → j < length rows → (get_or rows i d).pid.0 ≤ (get_or rows j d).pid.0
-IsNonDecreasingBy-rising [] r i j d le lt = absurd (omega arith)
-IsNonDecreasingBy-rising (c ∷ rows) r zero zero d le lt = omega arith
-IsNonDecreasingBy-rising (c ∷ rows) r zero (suc j) d le lt = let a = above-at c.pid rows j d r.0 (omega arith) in omega arith
-IsNonDecreasingBy-rising (c ∷ rows) r (suc i) zero d le lt = absurd (omega arith)
-IsNonDecreasingBy-rising (c ∷ rows) r (suc i) (suc j) d le lt = IsNonDecreasingBy-rising rows r.1 i j d (omega arith) (omega arith)
-
--- the place is where the pids stop being lesser
-pub place-from_point : (rows : List Row) (p : Pid) (i : ℕ) → i ≤ length rows →
-    ((k : ℕ) (d : Row) → k < i → nat_lt (get_or rows k d).pid.0 p.0 ≡ true) →
-    ((d : Row) → i < length rows → nat_lt (get_or rows i d).pid.0 p.0 ≡ false) → i ≡ place rows p
-place-from_point [] p zero le below from = refl
-place-from_point [] p (suc i) le below from = absurd (omega arith)
-place-from_point (c ∷ rows) p zero le below from = rw (from c (omega arith)) refl
-place-from_point (c ∷ rows) p (suc i) le below from =
-    rw (below zero c (omega arith)) (ap suc (place-from_point rows p i (omega arith) (λ k d lt. below (suc k) d (omega arith)) (λ d lt. from d (omega arith))))
-
 -- ---- the row of a process
 -- a row of a lesser pid is of another process
 pub not-pid : (p : Pid) (c : Row) → nat_lt c.pid.0 p.0 ≡ true → is_pid p c ≡ false

@@ -2,7 +2,7 @@
 use Rattle.std.proofs.Common.{◌≡◌, ◌∙◌, ◌⊎◌, ◌<◌, ℕ, zero, suc, Bool, true, false, cond, List, [], ◌∷◌, length, get_or, set, refl, sym, ap, subst, inl, inr, arith}
 use Rattle.std.specs.Prelude.{map, filter}
 use Rattle.std.proofs.lemmas.Bool.{eq-eqb, lt-ltb, le-ltb}
-use Rattle.process_table.proofs.RisingLaws.{above-at}
+use Rattle.ordered_table.proofs.RisingLaws.{above-at}
 use Rattle.process_table.proofs.ChangeLaws.{nothing_sent}
 use Rattle.unix_names.specs.declared.Pid.{Pid}
 use Rattle.unix_names.specs.declared.Signal.{Signal}
@@ -90,7 +90,7 @@ changed-at (c ∷ rows) now p f i rising others at within is = is c ∙ sym (map
 place-own : (rows : List Row) (i : ℕ) (d : Row) → IsRising rows → i < length rows → i ≡ place rows (get_or rows i d).pid
 place-own [] i d r lt = absurd (omega arith)
 place-own (c ∷ rows) zero d r lt = rw (le-ltb c.pid.0 c.pid.0 (omega arith)) refl
-place-own (c ∷ rows) (suc i) d r lt = rw (lt-ltb c.pid.0 (get_or rows i d).pid.0 (above-at c.pid rows i d r.0 (omega arith))) (ap suc (place-own rows i d r.1 (omega arith)))
+place-own (c ∷ rows) (suc i) d r lt = rw (lt-ltb c.pid.0 (get_or rows i d).pid.0 (above-at (λ (x : Row). x.pid.0) c.pid.0 rows i d r.0 (omega arith))) (ap suc (place-own rows i d r.1 (omega arith)))
 
 -- signals for one process
 abbrev sent_to : Pid → List Signal → Row → List Signal

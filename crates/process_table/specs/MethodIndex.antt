@@ -4,6 +4,7 @@ use Rattle.std.specs.Prelude.{◌≡◌, ◌<◌, ◌==◌, ◌&&◌, ◌||◌, 
 use Rattle.unix_names.specs.States.{is_living}
 use Rattle.unix_names.specs.declared.Pid.{Pid}
 use Rattle.ordered_table.specs.Entries.{value_at}
+use Rattle.ordered_table.specs.Rising.{AllAboveBy, IsRisingBy, place_by}
 use Rattle.ordered_table.specs.Lists.{Lists, members_of}
 use Rattle.ordered_table.specs.declared.entries.Entry.{Entry}
 use Rattle.process_table.specs.Orphans.{is_orphaned}
@@ -11,20 +12,21 @@ use Rattle.process_table.specs.Rows.{is_same}
 use Rattle.process_table.specs.declared.index.Index.{Index}
 use Rattle.process_table.specs.declared.rows.Row.{Row}
 
+-- the key by which rows are found by halves
+abbrev pub pid_number : Row → ℕ
+pid_number c = c.pid.0
+
 -- every pid is above p
 abbrev pub AllAbove : Pid → List Row → Type 0
-AllAbove p [] = Unit {0}
-AllAbove p (c ∷ rows) = (p.0 < c.pid.0) × AllAbove p rows
+AllAbove p rows = AllAboveBy pid_number p.0 rows
 
 -- the pids rise from row to row
 abbrev pub IsRising : List Row → Type 0
-IsRising [] = Unit {0}
-IsRising (c ∷ rows) = AllAbove c.pid rows × IsRising rows
+IsRising rows = IsRisingBy pid_number rows
 
 -- how many of the first rows have a lesser pid
 abbrev pub place : List Row → Pid → ℕ
-place [] p = zero
-place (c ∷ rows) p = if nat_lt c.pid.0 p.0 then suc (place rows p) else zero
+place rows p = place_by pid_number rows p.0
 
 -- the pid is above that of the last row
 abbrev pub is_next : List Row → Pid → Bool

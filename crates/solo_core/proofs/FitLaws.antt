@@ -26,10 +26,11 @@ use Rattle.proc_image.proofs.Fits.{IsFit-moved, next_statement-valid}
 use Rattle.process_table.specs.declared.Row.{Row}
 use Rattle.process_table.specs.Rows.{row_of}
 use Rattle.solo_core.specs.declared.machine.Machine.{Machine}
-use Rattle.solo_core.specs.Machine.{woken_image, roused, nudged, told, chosen, in_phase, advanced, image_after, placed, placed_image, with_image, child_pid, born, born_as, decided, serial_after, committed}
-use Rattle.solo_core.specs.Ready.{first_movable}
+use Rattle.image_turns.specs.Turns.{woken_image, in_phase, advanced, image_after, child_pid, born, born_as}
+use Rattle.solo_core.specs.Machine.{roused, nudged, told, chosen, placed, placed_image, with_image, decided, serial_after, committed}
+use Rattle.image_turns.specs.Ready.{first_movable, is_stopped_phase}
 use Rattle.solo_core.specs.Commit.{AllFit}
-use Rattle.solo_core.specs.Run.{Played, first_machine, played_by, played, gone_from, gone, is_stopped_phase, pushed_from, pushed, gone_times, turned}
+use Rattle.solo_core.specs.Run.{Played, first_machine, played_by, played, gone_from, gone, pushed_from, pushed, gone_times, turned}
 use Rattle.unix_calls.specs.Turns.{turns_in}
 
 -- ---- tables

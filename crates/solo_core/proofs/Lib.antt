@@ -4,4 +4,3 @@ pub mod MachineLaws
 pub mod FitLaws
 pub mod TurnLaws
 pub mod RunLaws
-pub mod ReadyLaws

@@ -10,7 +10,8 @@ use Rattle.proc_image.specs.declared.image.Image.{Image}
 use Rattle.process_table.specs.declared.Row.{Row}
 use Rattle.kernel_rules.specs.MethodEnding.{is_left}
 use Rattle.solo_core.specs.declared.machine.Machine.{Machine}
-use Rattle.solo_core.specs.Machine.{Groups, groups_after, told as told_of, stepped, decided, placed, placed_image, with_image, image_after, born, nudged, committed}
+use Rattle.solo_core.specs.Machine.{Groups, groups_after, told as told_of, stepped, decided, placed, placed_image, with_image, nudged, committed}
+use Rattle.image_turns.specs.Turns.{image_after, born}
 use Rattle.solo_core.specs.Commit.{others_in, told_first, risked}
 use Rattle.solo_core.proofs.ToldLaws.{told_parts}
 

@@ -7,8 +7,8 @@ use Rattle.unix_calls.specs.declared.Job.TheVariants.{Push}
 use Rattle.unix_calls.specs.declared.Turn.{Turn}
 use Rattle.unix_calls.specs.declared.World.{World}
 use Rattle.proc_image.specs.declared.image.Image.{Image}
-use Rattle.solo_core.specs.Ready.{first_movable, without_movable}
-use Rattle.solo_core.specs.Run.{Played, played, gone_from, gone, is_stopped_phase, pushed_from, pushed, gone_times, turned, first_machine, run}
+use Rattle.image_turns.specs.Ready.{first_movable, without_movable, is_stopped_phase}
+use Rattle.solo_core.specs.Run.{Played, played, gone_from, gone, pushed_from, pushed, gone_times, turned, first_machine, run}
 use Rattle.unix_calls.specs.Turns.{turns_in, turns_total}
 
 -- the image that was found is moved, and the others stay

@@ -1,4 +1,3 @@
-pub mod Ready
 pub mod Machine
 pub mod Run
 pub mod Commit

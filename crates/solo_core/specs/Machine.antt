@@ -18,6 +18,7 @@ use Rattle.unix_calls.specs.declared.Target.{Target}
 use Rattle.unix_calls.specs.declared.Target.TheVariants.{OwnGroup, One, InGroup}
 use Rattle.unix_calls.specs.declared.World.{World}
 use Rattle.unix_calls.specs.Calls.{target_of}
+use Rattle.image_turns.specs.Turns.{woken_image, in_phase, image_after, child_pid, born}
 pub use Rattle.ordered_table.specs.Lists.{members_of, joined}
 use Rattle.ordered_table.specs.Lists.{Lists}
 use Rattle.ordered_table.specs.Entries.{value_at, with_value, without, pids_of}
@@ -135,14 +136,6 @@ abbrev pub told : List Row → List Row → Row → Entry → Groups → List Pi
 told before now r (Called caller call reply) groups = told_of_call before now r call reply groups
 told before now r (Happened p event) groups = told_of_event before now r event groups
 
--- a process that sleeps wakes, and a stopped one stays so, to look at its signals
-abbrev pub woken : Phase → Phase
-woken phases.Asleep = phases.Ready
-woken phase = phase
-
-abbrev pub woken_image : Image → Image
-woken_image image = record image { phase = woken image.phase }
-
 abbrev pub roused : Machine → Pid → Option Image → Machine
 roused m p None = m
 roused m p (Some image) = record m { ready = m.ready ++ woken_image image ∷ []; parked = without m.parked p }
@@ -165,31 +158,6 @@ happened_or r job (Some event) = Some (Happened r.pid event)
 abbrev pub chosen : List Row → Row → ℕ → Job → Option Entry
 chosen rows r serial job = happened_or r (asked rows r serial job) (first_event rows r)
 
--- ---- where it leaves the image
-abbrev pub phase_after_call : World → Image → Call → Reply → Phase
-phase_after_call world image (Exit n) reply = phases.Gone
-phase_after_call world image call reply = if stands_again world (progress_of image) reply then phases.Asleep else phases.Ready
-
-abbrev pub phase_after_event : Event → Phase
-phase_after_event (StoppedBy s) = phases.Stopped
-phase_after_event (EndedBy s) = phases.Gone
-phase_after_event event = phases.Ready
-
-abbrev pub phase_after : World → Image → Entry → Phase
-phase_after world image (Called caller call reply) = phase_after_call world image call reply
-phase_after world image (Happened p event) = phase_after_event event
-
--- a call moves the process on in its script, and an event does not
-abbrev pub advanced : World → Image → Entry → Image
-advanced world image (Called caller call reply) = moved_image world image reply
-advanced world image (Happened p event) = image
-
-abbrev pub in_phase : Phase → Image → Image
-in_phase phase image = record image { phase = phase }
-
-abbrev pub image_after : World → Image → Entry → Image
-image_after world image entry = in_phase (phase_after world image entry) (advanced world image entry)
-
 -- an image that can run joins the end of the queue, one that sleeps or is stopped is parked, and that of a process that has ended is dropped
 abbrev pub placed : Phase → Image → Machine → Machine
 placed phases.Ready image m = record m { ready = m.ready ++ image ∷ [] }
@@ -202,19 +170,6 @@ placed_image image m = placed image.phase image m
 abbrev pub with_image : Option Image → Machine → Machine
 with_image None m = m
 with_image (Some image) m = record m { ready = m.ready ++ image ∷ [] }
-
--- the pid of the child that an entry makes
-abbrev pub child_pid : Entry → Option Pid
-child_pid (Called caller Fork (Number n)) = Some (record { 0 = n })
-child_pid entry = None
-
-abbrev pub born_as : World → Image → Option Pid → Option Image
-born_as world image None = None
-born_as world image (Some p) = option_map (child_image image p) (next_child world image.pid (progress_of image))
-
--- the image of the child that an entry makes
-abbrev pub born : World → Image → Entry → Option Image
-born world image entry = born_as world image (child_pid entry)
 
 -- ---- the turn
 -- a table steps where the step is legal

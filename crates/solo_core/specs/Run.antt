@@ -13,7 +13,7 @@ use Rattle.process_table.specs.Rows.{row_of}
 use Rattle.kernel_model.specs.Legal.{boot}
 use Rattle.solo_core.specs.declared.machine.Machine.{Machine}
 pub use Rattle.solo_core.specs.declared.played.Played.{Played}
-pub use Rattle.solo_core.specs.Ready.{is_stopped_phase}
+pub use Rattle.image_turns.specs.Ready.{is_stopped_phase}
 use Rattle.solo_core.specs.Machine.{Groups, joined, chosen, committed}
 
 -- each start is a member of its group, in the order of the file

@@ -3,11 +3,9 @@
 
 mod choice;
 mod groups;
-mod images;
 mod machine;
 mod outcome;
 mod played;
-mod ready;
 mod replay;
 mod told;
 

@@ -6,8 +6,8 @@ ghost use Rattle.proc_image.specs.Images.{IsFit};
 ghost use Rattle.solo_core.specs.Machine.{stepped, serial_after, decided, nudged, placed_image, with_image, told, committed};
 
 use crate::groups::{Groups, change_groups};
-use crate::images::{advance, born, woken};
-use crate::ready::ReadyQueue;
+use image_turns::{advance, born, woken};
+use image_turns::ReadyQueue;
 use crate::told::{add_all_members, keep_left, risked, told_first};
 use kernel_model::Kernel;
 use process_table::Row;

@@ -9,7 +9,7 @@ ghost use Rattle.unix_calls.specs.Turns.{turns_in};
 use crate::choice::{chosen, record};
 use crate::groups::first_groups;
 use crate::machine::Machine;
-use crate::ready::ReadyQueue;
+use image_turns::ReadyQueue;
 use kernel_model::Kernel;
 use ordered_table::SparseTable;
 use proc_image::Image;

@@ -42,7 +42,7 @@ use Rattle.kernel_choice.specs.Laws.{is_exit}
 use Rattle.kernel_choice.proofs.EventLaws.{chosen_may_happen, none_where_clear}
 use Rattle.kernel_choice.proofs.ReplyLaws.{chosen_allowed, exit_alone}
 use Rattle.solo_core.specs.Machine.{asked, happened_or, chosen}
-use Rattle.solo_core.specs.Run.{is_stopped_phase}
+use Rattle.image_turns.specs.Ready.{is_stopped_phase}
 use Rattle.solo_laws.specs.Stands.{AreGiven}
 
 -- ---- jobs

@@ -26,8 +26,9 @@ use Rattle.kernel_laws.proofs.Rows.{number, row_pid}
 use Rattle.kernel_laws.proofs.Legal.{after_is}
 use Rattle.kernel_laws.proofs.Forms.{ForksAs}
 use Rattle.solo_core.specs.declared.machine.Machine.{Machine}
-use Rattle.solo_core.specs.Machine.{told, born, with_image, stepped, stepped_by, serial_after, decided, phase_after, advanced, in_phase, image_after, placed_image, committed}
-use Rattle.solo_core.specs.Run.{is_stopped_phase}
+use Rattle.solo_core.specs.Machine.{told, with_image, stepped, stepped_by, serial_after, decided, placed_image, committed}
+use Rattle.image_turns.specs.Turns.{born, phase_after, advanced, in_phase, image_after}
+use Rattle.image_turns.specs.Ready.{is_stopped_phase}
 use Rattle.solo_laws.specs.Stands.{queued_at, IsImageOf, IsOver, IsPlaced, AreGiven}
 use Rattle.solo_laws.proofs.Lives.{keeps_life}
 use Rattle.solo_laws.proofs.Middles.{at-append_same}

@@ -8,7 +8,8 @@ use Rattle.kernel_model.specs.Legal.{boot}
 use Rattle.solo_core.specs.declared.played.Played.{Played}
 use Rattle.solo_core.specs.Run.{first_machine, run, IsQuiet}
 use Rattle.audit_core.specs.Finished.{IsFinished}
-use Rattle.solo_laws.specs.Stands.{queued_at, IsPlaced, progress_after, Stands}
+use Rattle.solo_laws.specs.Stands.{queued_at, IsPlaced, Stands}
+use Rattle.proc_image.specs.Follows.{running_after}
 use Rattle.solo_laws.specs.Rests.{Rests}
 use Rattle.solo_laws.specs.Laws.{RunsRest, QuietRunsFinish}
 use Rattle.solo_laws.proofs.Rested.{IsResting}
@@ -30,11 +31,11 @@ finished world p stands rests quiet q r e lives = go (value_at p.machine.parked 
     there : row_of p.machine.kernel q ≡ Some r
     there = ap (λ k. row_of k q) stands.table ∙ e
 
-    placed : (o : Option Image) → value_at p.machine.parked q ≡ o → IsPlaced world (Some r) (progress_after world p.history q.0) q None o
+    placed : (o : Option Image) → value_at p.machine.parked q ≡ o → IsPlaced world (Some r) (running_after world p.history q.0) q None o
     placed o is =
-        subst (λ b. IsPlaced world (Some r) (progress_after world p.history q.0) q None b) is
-        (subst (λ a. IsPlaced world (Some r) (progress_after world p.history q.0) q a (value_at p.machine.parked q)) (ap (λ l. queued_at l q) quiet)
-        (subst (λ c. IsPlaced world c (progress_after world p.history q.0) q (queued_at p.machine.ready q) (value_at p.machine.parked q)) there (stands.images.each q)))
+        subst (λ b. IsPlaced world (Some r) (running_after world p.history q.0) q None b) is
+        (subst (λ a. IsPlaced world (Some r) (running_after world p.history q.0) q a (value_at p.machine.parked q)) (ap (λ l. queued_at l q) quiet)
+        (subst (λ c. IsPlaced world c (running_after world p.history q.0) q (queued_at p.machine.ready q) (value_at p.machine.parked q)) there (stands.images.each q)))
 
     go : (o : Option Image) → value_at p.machine.parked q ≡ o → IsResting world p.history r
     go None is = absurd (cc (placed None is, lives))

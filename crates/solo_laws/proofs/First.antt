@@ -17,7 +17,7 @@ use Rattle.list_laws.specs.Keyed.{at, Distinct, Each}
 use Rattle.list_laws.proofs.Elements.{each_head, each_rest}
 use Rattle.list_laws.proofs.Finding.{at-map, at-append, at-append_none, absent_differs, absent_rest, found, distinct-map}
 use Rattle.proc_image.specs.Scripts.{nobody}
-use Rattle.proc_image.specs.Follows.{started, first_running}
+use Rattle.proc_image.specs.Follows.{started, first_running, running_after}
 use Rattle.proc_image.specs.Images.{start_image}
 use Rattle.process_table.specs.declared.Row.{Row}
 use Rattle.process_table.specs.Rows.{is_stopped, row_of}
@@ -27,7 +27,7 @@ use Rattle.kernel_laws.proofs.Starts.{start_number, valid_pids}
 use Rattle.kernel_laws.proofs.Boot.{boot_first, boot_sound}
 use Rattle.solo_core.specs.Run.{first_machine}
 use Rattle.unix_calls.specs.Calls.{IsEntry}
-use Rattle.solo_laws.specs.Stands.{IsOver, image_number, IsImageOf, IsPlaced, HaveImages, AreGiven, progress_after}
+use Rattle.solo_laws.specs.Stands.{IsOver, image_number, IsImageOf, IsPlaced, HaveImages, AreGiven}
 use Rattle.solo_laws.proofs.Middles.{at-append_other, at-append_same}
 use Rattle.solo_laws.proofs.Places.{same_pid, placed_as}
 use Rattle.solo_laws.proofs.Played.{StandsBy}
@@ -127,7 +127,7 @@ module _ (world : World) (valid : IsValid world) (one : world.nodes ≡ 1) where
   start_place q None e = subst (λ r. IsOver r) (sym (booted_none world.starts [] q refl e)) tt
   start_place q (Some s) e = let c = booted_some world.starts [] q s refl e in (tt, start_image_of q s c.0 e c.1)
 
-  first_images : HaveImages world (progress_after world []) (first_machine world)
+  first_images : HaveImages world (running_after world []) (first_machine world)
   first_images = record {
     once = distinct-map start_number image_number (start_image world) (λ s. refl) world.starts differ;
     rising = tt;

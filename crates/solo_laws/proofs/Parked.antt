@@ -19,7 +19,7 @@ use Rattle.ordered_table.specs.Entries.{value_at}
 use Rattle.list_laws.proofs.Filters.{some_same}
 use Rattle.proc_image.specs.declared.image.Image.{Image}
 use Rattle.proc_image.specs.Scripts.{next_call, stands_again, moved_on}
-use Rattle.proc_image.specs.Follows.{first_running}
+use Rattle.proc_image.specs.Follows.{first_running, running_after}
 use Rattle.proc_image.specs.Images.{progress_of}
 use Rattle.proc_image.proofs.FollowsLaws.{after_entries-push}
 use Rattle.process_table.specs.declared.Row.{Row}
@@ -32,10 +32,12 @@ use Rattle.kernel_laws.proofs.Legal.{actor, after_is, call_allowed}
 use Rattle.kernel_choice.specs.Choice.{first_event}
 use Rattle.solo_core.specs.declared.machine.Machine.{Machine}
 use Rattle.solo_core.specs.declared.played.Played.{Played}
-use Rattle.solo_core.specs.Machine.{told, stepped, stepped_by, groups_after, decided, in_phase, chosen, happened_or, asked, phase_after, committed}
-use Rattle.solo_core.specs.Run.{with_entry, is_stopped_phase}
+use Rattle.solo_core.specs.Machine.{told, stepped, stepped_by, groups_after, decided, chosen, happened_or, asked, committed}
+use Rattle.image_turns.specs.Turns.{in_phase, phase_after}
+use Rattle.solo_core.specs.Run.{with_entry}
+use Rattle.image_turns.specs.Ready.{is_stopped_phase}
 use Rattle.audit_core.specs.Finished.{StaysStopped, SleepsOn, last_call, later_call}
-use Rattle.solo_laws.specs.Stands.{IsParkedPhase, IsImageOf, progress_after, Stands}
+use Rattle.solo_laws.specs.Stands.{IsParkedPhase, IsImageOf, Stands}
 use Rattle.solo_laws.specs.Rests.{AreListed, Rests}
 use Rattle.solo_laws.proofs.Chosen.{IsJobOf, IsChosen, fresh_next, chosen_none}
 use Rattle.solo_laws.proofs.Progress.{IsNoForkOf, progress_own}
@@ -48,7 +50,7 @@ use Rattle.solo_laws.proofs.Rested.{IsResting, acts, table_next, listed_now, no_
 
 -- ---- the process that has its turn
 module _ (world : World) (p : Played) (stands : Stands world p) (image : Image) (r : Row) (here : row_of p.machine.kernel r.pid ≡ Some r) (named : r.pid ≡ image.pid)
-    (of : IsImageOf world (row_of p.machine.kernel image.pid) (progress_after world p.history image.pid.0) image.pid image) (listed : AreListed p.machine.kernel p.machine.groups) where
+    (of : IsImageOf world (row_of p.machine.kernel image.pid) (running_after world p.history image.pid.0) image.pid image) (listed : AreListed p.machine.kernel p.machine.groups) where
   abbrev rows : List Row
   rows = p.machine.kernel
 
@@ -60,7 +62,7 @@ module _ (world : World) (p : Played) (stands : Stands world p) (image : Image) 
       let next = p.history ++ entry ∷ [] in
       let at = progress_of image in
       let wait = waiting world image.pid at reply e in
-      let running = progress_after world p.history in
+      let running = running_after world p.history in
       let called : call ≡ Waitpid wait.sel wait.stopped wait.continued = is.asks.0 ∙ wait.call in
       let asks : call ≡ next_call world r.pid at = is.asks.0 ∙ ap (λ q. next_call world q at) (sym named) in
       let same : row_after rows r entry ≡ rows = ap (λ c. row_after rows r (Called caller c reply)) called ∙ ap (λ x. row_after rows r (Called caller (Waitpid wait.sel wait.stopped wait.continued) x)) wait.again in
@@ -75,7 +77,7 @@ module _ (world : World) (p : Played) (stands : Stands world p) (image : Image) 
       subst (SleepsOn world next) (some_same r r' (sym here ∙ ap (λ t. row_of t r.pid) (sym same) ∙ later)) (record {
         free = allowed.0;
         progress = at;
-        runs = ap (λ (q : Pid). progress_after world next q.0) (sym is.process) ∙ ap (λ f. f caller.0) (after_entries-push world (first_running world) p.history entry) ∙ far
+        runs = ap (λ (q : Pid). running_after world next q.0) (sym is.process) ∙ ap (λ f. f caller.0) (after_entries-push world (first_running world) p.history entry) ∙ far
             ∙ ap (λ x. Some (moved_on world at x)) wait.again ∙ ap Some wait.stays;
         waits = subst (λ x. stands_again world at x ≡ true) wait.again e;
         asked = last-push p.history entry r.pid ∙ ap (later_call r.pid (last_call p.history r.pid)) entry_is ∙ last_own r.pid (last_call p.history r.pid) (next_call world r.pid at) Again;
@@ -107,7 +109,7 @@ module _ (world : World) (valid : IsValid world) (p : Played) (stands : Stands w
   abbrev m : Machine
   m = record p.machine { ready = before ++ later }
 
-  abbrev of : IsImageOf world (row_of p.machine.kernel image.pid) (progress_after world p.history image.pid.0) image.pid image
+  abbrev of : IsImageOf world (row_of p.machine.kernel image.pid) (running_after world p.history image.pid.0) image.pid image
   of = taken_of world valid p stands few before image later ready job fits
 
   process : of.process ≡ r
@@ -145,7 +147,7 @@ module _ (world : World) (valid : IsValid world) (p : Played) (stands : Stands w
         let k = committed_parked world image r entry m q other stands.images.rising absent e in
         elim k.1 [
           | inl was ↦
-              let w_of = (parked_one world (progress_after world p.history) p.machine.kernel p.machine.serial p.machine (from_images world p stands) q other was.there).2 in
+              let w_of = (parked_one world (running_after world p.history) p.machine.kernel p.machine.serial p.machine (from_images world p stands) q other was.there).2 in
               let w = w_of.process in
               let own = row_pid p.machine.kernel q w w_of.there in
               rests_on world p stands image r entry is here rests.listed w r' (row_here p.machine.kernel q w w_of.there) (ap (row_of (row_after p.machine.kernel r entry)) own ∙ e')

@@ -15,7 +15,8 @@ use Rattle.process_table.specs.declared.Row.{Row}
 use Rattle.process_table.specs.Rows.{is_among}
 use Rattle.kernel_laws.proofs.Rows.{pid_same}
 use Rattle.solo_core.specs.declared.machine.Machine.{Machine}
-use Rattle.solo_core.specs.Machine.{told, roused, nudged, placed, with_image, born, stepped, groups_after, decided, phase_after, image_after, placed_image, committed}
+use Rattle.solo_core.specs.Machine.{told, roused, nudged, placed, with_image, stepped, groups_after, decided, placed_image, committed}
+use Rattle.image_turns.specs.Turns.{born, phase_after, image_after}
 use Rattle.solo_laws.specs.Stands.{IsParkedPhase}
 use Rattle.solo_laws.proofs.Placed.{advanced_pid}
 

@@ -32,8 +32,9 @@ use Rattle.kernel_laws.proofs.Legal.{actor}
 use Rattle.kernel_laws.proofs.Coming.{living_stay}
 use Rattle.kernel_choice.specs.Choice.{reply_of, refused_or}
 use Rattle.solo_core.specs.declared.machine.Machine.{Machine}
-use Rattle.solo_core.specs.Machine.{phase_after_call, phase_after, advanced, in_phase, placed}
-use Rattle.solo_core.specs.Run.{is_stopped_phase}
+use Rattle.image_turns.specs.Turns.{phase_after_call, phase_after, advanced, in_phase}
+use Rattle.solo_core.specs.Machine.{placed}
+use Rattle.image_turns.specs.Ready.{is_stopped_phase}
 use Rattle.solo_laws.specs.Stands.{HasPids, IsImageOf, IsOver, AreGiven}
 use Rattle.solo_laws.proofs.Lives.{own_life, end_over}
 use Rattle.solo_laws.proofs.Places.{HaveBut, AlsoOut, add_queued, add_parked, add_nothing}

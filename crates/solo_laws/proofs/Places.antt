@@ -17,8 +17,9 @@ use Rattle.proc_image.specs.Follows.{Running}
 use Rattle.process_table.specs.declared.Row.{Row}
 use Rattle.process_table.specs.Rows.{row_of, is_stopped}
 use Rattle.solo_core.specs.declared.machine.Machine.{Machine}
-use Rattle.solo_core.specs.Machine.{woken, woken_image, roused, nudged}
-use Rattle.solo_core.specs.Run.{is_stopped_phase}
+use Rattle.image_turns.specs.Turns.{woken, woken_image}
+use Rattle.solo_core.specs.Machine.{roused, nudged}
+use Rattle.image_turns.specs.Ready.{is_stopped_phase}
 use Rattle.solo_laws.specs.Stands.{image_number, queued_at, IsQueuedPhase, IsParkedPhase, IsImageOf, IsOver, IsPlaced}
 use Rattle.solo_laws.proofs.Middles.{at-append_other, at-append_same, at-without, distinct-without, absent-without, at-middle}
 use Rattle.solo_laws.proofs.Lives.{KeepsLife}

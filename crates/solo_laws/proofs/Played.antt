@@ -11,7 +11,7 @@ use Rattle.unix_calls.specs.Valid.{IsValid}
 use Rattle.ordered_table.specs.Entries.{value_at}
 use Rattle.proc_image.specs.declared.image.Image.{Image}
 use Rattle.proc_image.specs.Scripts.{next_call}
-use Rattle.proc_image.specs.Follows.{Running, first_running, after_entry}
+use Rattle.proc_image.specs.Follows.{Running, first_running, after_entry, running_after}
 use Rattle.proc_image.specs.Images.{progress_of}
 use Rattle.proc_image.proofs.FollowsLaws.{FollowsFrom-push, after_entries-push}
 use Rattle.process_table.specs.declared.Row.{Row}
@@ -24,9 +24,10 @@ use Rattle.kernel_laws.proofs.Rows.{row_pid, row_here}
 use Rattle.kernel_laws.proofs.Steps.{step_keeps}
 use Rattle.solo_core.specs.declared.machine.Machine.{Machine}
 use Rattle.solo_core.specs.declared.played.Played.{Played}
-use Rattle.solo_core.specs.Machine.{child_pid, serial_after, chosen, committed}
+use Rattle.image_turns.specs.Turns.{child_pid}
+use Rattle.solo_core.specs.Machine.{serial_after, chosen, committed}
 use Rattle.solo_core.specs.Run.{with_entry, played_by, played}
-use Rattle.solo_laws.specs.Stands.{queued_at, IsImageOf, IsPlaced, HaveImages, AreGiven, progress_after, Stands}
+use Rattle.solo_laws.specs.Stands.{queued_at, IsImageOf, IsPlaced, HaveImages, AreGiven, Stands}
 use Rattle.solo_laws.proofs.Given.{given_kept}
 use Rattle.solo_laws.proofs.Places.{HaveBut, AlsoOut, NoneOut, queued_one, take_queued}
 use Rattle.solo_laws.proofs.Names.{next_names}
@@ -43,7 +44,7 @@ pub more_entries : (world : World) (count next : ℕ) (p : Played) → count ≤
 more_entries world count next p le by = let few = by.entries in record { stands = by.stands; entries = omega (arith, le, few) }
 
 -- ---- the images and the rest together
-pub from_images : (world : World) (p : Played) → Stands world p → HaveBut world (progress_after world p.history) p.machine.kernel p.machine.serial NoneOut p.machine
+pub from_images : (world : World) (p : Played) → Stands world p → HaveBut world (running_after world p.history) p.machine.kernel p.machine.serial NoneOut p.machine
 from_images world p stands = record {
   kernel = refl;
   next = refl;
@@ -53,11 +54,11 @@ from_images world p stands = record {
   rest = λ q inside. stands.images.each q;
 }
 
-pub to_images : (world : World) (p : Played) (rows : List Row) (serial : ℕ) → HaveBut world (progress_after world p.history) rows serial NoneOut p.machine → HaveImages world (progress_after world p.history) p.machine
+pub to_images : (world : World) (p : Played) (rows : List Row) (serial : ℕ) → HaveBut world (running_after world p.history) rows serial NoneOut p.machine → HaveImages world (running_after world p.history) p.machine
 to_images world p rows serial have = record {
   once = have.once;
   rising = have.rising;
-  each = λ q. subst (λ k. IsPlaced world (row_of k q) (progress_after world p.history q.0) q (queued_at p.machine.ready q) (value_at p.machine.parked q)) (sym have.kernel) (have.rest q (λ o. o));
+  each = λ q. subst (λ k. IsPlaced world (row_of k q) (running_after world p.history q.0) q (queued_at p.machine.ready q) (value_at p.machine.parked q)) (sym have.kernel) (have.rest q (λ o. o));
 }
 
 at_least : (b : Bool) (n : ℕ) → n ≤ cond b (suc n) n
@@ -71,7 +72,7 @@ at_most false n = omega arith
 module _ (world : World) (valid : IsValid world) (p : Played) (stands : Stands world p) (few : length p.history ≤ 200000) (before : List Image) (image : Image) (later : List Image) (ready : p.machine.ready ≡ before ++ image ∷ later)
     (job : Job) (fits : IsJobOf world image job) where
   abbrev running : Running
-  running = progress_after world p.history
+  running = running_after world p.history
 
   abbrev rows : List Row
   rows = p.machine.kernel
@@ -111,7 +112,7 @@ module _ (world : World) (valid : IsValid world) (p : Played) (stands : Stands w
   entry_stands entry is =
       let now : Played = record { machine = committed world image taken_of.process (Some entry) taken; history = p.history ++ entry ∷ [] } in
       let d = committed_have world running rows serial image taken_of.process valid stands.sound stands.given taken_room taken_of.there taken_of entry taken is taken_have in
-      let far : progress_after world (p.history ++ entry ∷ []) ≡ after_entry world running entry = after_entries-push world (first_running world) p.history entry in
+      let far : running_after world (p.history ++ entry ∷ []) ≡ after_entry world running entry = after_entries-push world (first_running world) p.history entry in
       let kept = subst (λ f. HaveBut world f (after rows entry) (serial_after serial entry) NoneOut now.machine) (sym far) d in
       let small = stands.few in
       let least = stands.least in

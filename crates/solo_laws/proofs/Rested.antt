@@ -11,7 +11,7 @@ use Rattle.unix_calls.specs.declared.World.{World}
 use Rattle.signal_state.specs.Sig.{deliverable}
 use Rattle.proc_image.specs.declared.image.Image.{Image}
 use Rattle.proc_image.specs.Scripts.{next_call}
-use Rattle.proc_image.specs.Follows.{first_running}
+use Rattle.proc_image.specs.Follows.{first_running, running_after}
 use Rattle.proc_image.proofs.FollowsLaws.{after_entries-push}
 use Rattle.process_table.specs.declared.Row.{Row}
 use Rattle.process_table.specs.Rows.{row_of, is_among}
@@ -23,7 +23,7 @@ use Rattle.kernel_laws.proofs.Legal.{after_is}
 use Rattle.solo_core.specs.declared.played.Played.{Played}
 use Rattle.solo_core.specs.Machine.{Groups, members_of, told, groups_after}
 use Rattle.audit_core.specs.Finished.{StaysStopped, SleepsOn, last_call}
-use Rattle.solo_laws.specs.Stands.{progress_after, Stands}
+use Rattle.solo_laws.specs.Stands.{Stands}
 use Rattle.solo_laws.specs.Rests.{AreListed}
 use Rattle.solo_laws.proofs.Chosen.{IsChosen, chosen_number}
 use Rattle.solo_laws.proofs.Histories.{table-push}
@@ -93,14 +93,14 @@ module _ (world : World) (p : Played) (stands : Stands world p) (image : Image) 
     sleeps_on s =
         let at = s.progress in
         let wait = waiting world w.pid at Again s.waits in
-        let running = progress_after world p.history in
+        let running = running_after world p.history in
         let alone = no_fork w.pid w there in
         let before : allows rows w (next_call world w.pid at) Again ≡ true = subst (λ t. allows t w (next_call world w.pid at) Again ≡ true) (sym stands.table) s.still in
         let still = again_still rows entry stands.sound is.legal r acts groups w there other untold w' later wait.sel wait.stopped wait.continued (subst (λ c. allows rows w c Again ≡ true) wait.call before) in
         record {
           free = ap (λ x. not x.stopped && (deliverable x == 0)) same_signals ∙ s.free;
           progress = at;
-          runs = ap (λ q. progress_after world next q.0) same_pid ∙ ap (λ f. f w.pid.0) (after_entries-push world (first_running world) p.history entry) ∙ progress_kept world running entry w.pid.0 apart alone ∙ s.runs;
+          runs = ap (λ q. running_after world next q.0) same_pid ∙ ap (λ f. f w.pid.0) (after_entries-push world (first_running world) p.history entry) ∙ progress_kept world running entry w.pid.0 apart alone ∙ s.runs;
           waits = s.waits;
           asked = subst (λ q. last_call next q ≡ Some (Called q (next_call world q at) Again)) (sym same_pid) (last-push p.history entry w.pid ∙ last_other w.pid (last_call p.history w.pid) entry apart alone ∙ s.asked);
           still = subst (λ q. allows (after_all world next) w' (next_call world q at) Again ≡ true) (sym same_pid)

@@ -14,7 +14,8 @@ use Rattle.process_table.specs.declared.Row.{Row}
 use Rattle.process_table.specs.Rows.{row_of}
 use Rattle.solo_core.specs.declared.played.Played.{Played}
 use Rattle.solo_core.specs.Machine.{chosen, committed}
-use Rattle.solo_core.specs.Run.{with_entry, played_by, played, gone_from, gone, is_stopped_phase, pushed_from, pushed, gone_times, turned}
+use Rattle.solo_core.specs.Run.{with_entry, played_by, played, gone_from, gone, pushed_from, pushed, gone_times, turned}
+use Rattle.image_turns.specs.Ready.{is_stopped_phase}
 use Rattle.unix_calls.specs.Turns.{turns_in, turns_total}
 use Rattle.solo_laws.specs.Stands.{Stands}
 use Rattle.solo_laws.proofs.Chosen.{IsJobOf, wants_next}

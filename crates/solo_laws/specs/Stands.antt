@@ -12,7 +12,7 @@ use Rattle.ordered_table.specs.Entries.{IsRising, value_at}
 use Rattle.list_laws.specs.Keyed.{at, Distinct}
 use Rattle.proc_image.specs.declared.image.Image.{Image}
 use Rattle.proc_image.specs.Scripts.{Progress, nobody}
-use Rattle.proc_image.specs.Follows.{Running, first_running, after_entries, Follows}
+use Rattle.proc_image.specs.Follows.{Running, running_after, Follows}
 use Rattle.proc_image.specs.Images.{IsFit, progress_of}
 use Rattle.process_table.specs.declared.Row.{Row}
 use Rattle.process_table.specs.Rows.{is_stopped, row_of}
@@ -20,7 +20,7 @@ use Rattle.kernel_model.specs.Legal.{after_all, IsLegal}
 use Rattle.kernel_model.specs.Sound.{IsSound}
 use Rattle.solo_core.specs.declared.machine.Machine.{Machine}
 use Rattle.solo_core.specs.declared.played.Played.{Played}
-use Rattle.solo_core.specs.Run.{is_stopped_phase}
+use Rattle.image_turns.specs.Ready.{is_stopped_phase}
 
 -- ---- images
 -- the key of an image
@@ -89,10 +89,6 @@ abbrev pub AreGiven : ℕ → List Row → Type 0
 AreGiven serial rows = (q : Pid) (r : Row) → row_of rows q ≡ Some r → IsGiven serial r
 
 -- ---- a node
--- how far each process is after a history
-abbrev pub progress_after : World → List Entry → Running
-progress_after world history = after_entries world (first_running world) history
-
 pub record Stands (world : World) (p : Played) : Type 0 where
   -- the table is that of the history
   pub table : p.machine.kernel ≡ after_all world p.history
@@ -100,7 +96,7 @@ pub record Stands (world : World) (p : Played) : Type 0 where
   pub legal : IsLegal world p.history
   pub follows : Follows world p.history
   pub whole : All IsEntry p.history
-  pub images : HaveImages world (progress_after world p.history) p.machine
+  pub images : HaveImages world (running_after world p.history) p.machine
   -- a fork's pid is greater than each number in the table, and each fork is an entry
   pub given : AreGiven p.machine.serial p.machine.kernel
   pub least : 2 ≤ p.machine.serial

@@ -16,8 +16,8 @@ loop-i-preserved c =
     let longer : take (c.loop-i.i + 1) entries ≡ h ++ e ∷ [] = take_more entries c.loop-i.i e within ∙ ap (λ (x : Entry). h ++ x ∷ []) (sym c.index-entries-i.is) in
     let read = c.loop-i.invariant in
     let more = grown_there world h (take (c.loop-i.i + 1) entries) e c.loop-i.judge.kernel (running_of c.loop-i.judge.images) c.in_ok-step.field-0 longer read.legal read.follows read.kernel read.running
-    c.in_ok-step.ensures.verdict c.in-Legal.is in
-    let done = c.in_ok-step.was ∙ ap Ok c.in-Legal.is in record {
+    c.in_ok-step.ensures.verdict c.in-None.is in
+    let done = c.in_ok-step.was ∙ ap Ok c.in-None.is in record {
       kernel = c.step.ensures.kernel done ∙ more.table;
       running = c.step.ensures.running done ∙ more.progress;
       kept = c.step.ensures.kept done;

@@ -1,7 +1,6 @@
 use Rattle.std.proofs.Common.{◌≡◌, take}
 use Rattle.kernel_model.specs.Legal.{after_all, IsLegal}
-use Rattle.proc_image.specs.Follows.{Follows}
-use Rattle.audit_core.specs.Judge.{running_after}
+use Rattle.proc_image.specs.Follows.{Follows, running_after}
 use Rattle.audit_core.specs.Table.{running_of, IsKept}
 use Rattle.audit_core.proofs.judge.audit.Given as goal
 
