@@ -17,8 +17,9 @@ use Rattle.cluster_core.specs.Run.{run, total_turns}
 use Rattle.cluster_laws.specs.Laws.{CanRun}
 use Rattle.cluster_cli.specs.Commands.{IsWithin}
 use Rattle.cluster_cli.specs.Load.{load_turns, load_text, Loads}
+use Rattle.unix_calls.specs.declared.limits.TheConstants.{MOST_TURNS}
 
-few : total_turns load_turns ≤ 200000
+few : total_turns load_turns ≤ MOST_TURNS
 unfolding load_turns
 few = omega arith
 

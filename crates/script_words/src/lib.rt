@@ -7,7 +7,7 @@ mod limits;
 mod tests;
 mod words;
 
-pub use faults::{Fault, Kind, ReadRefusal, Refusal, bad};
+pub use faults::{Fault, Kind, ReadRefusal, bad};
 pub use limits::LONGEST_NAME;
 pub use words::{
     ended, is_minus_digits, is_skipped, is_utf8, is_word, name, node, number, signal,
