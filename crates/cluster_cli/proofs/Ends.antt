@@ -6,7 +6,8 @@ use Rattle.std.proofs.lemmas.List.{length-append}
 use Rattle.byte_ends.specs.Causes.{Rose}
 use Rattle.cluster_cli.specs.declared.status.Status.{Status}
 use Rattle.cluster_cli.specs.declared.status.Status.TheVariants.{ReadFault, WriteFault, NoMemory, TooLong}
-use Rattle.cluster_cli.specs.Ends.{Texts, HasText, IsRead, ReadsUpTo, ReadsCount, IsAnswered, input_limit}
+use Rattle.cluster_cli.specs.Ends.{Texts, HasText, IsRead, ReadsUpTo, ReadsCount, IsAnswered}
+use Rattle.byte_ends.specs.declared.limits.TheConstants.{LONGEST_INPUT}
 
 -- what is read to the end of a source that tells its bytes is all of them
 read_whole : (left left' : Option (List ℕ)) (bytes input : List ℕ) → left ≡ Some input → Consumes left left' bytes → IsAtEnd left' → bytes ≡ input
@@ -14,7 +15,7 @@ read_whole left left' bytes input told consumed end =
     let whole = Consumes-all left left' bytes [] bytes consumed end refl in
     rw told at whole
 
-too_long_for : (left left' : Option (List ℕ)) (bytes input : List ℕ) → IsRead left left' bytes → left ≡ Some input → input_limit < length input → ⊥
+too_long_for : (left left' : Option (List ℕ)) (bytes input : List ℕ) → IsRead left left' bytes → left ≡ Some input → LONGEST_INPUT < length input → ⊥
 too_long_for left left' bytes input read told long =
     let lengths = ap length (read_whole left left' bytes input told read.consumed read.ended) in
     let short = read.short in
@@ -26,7 +27,7 @@ some_same x y e = cc
 none_some : (x : List ℕ) → None ≡ Some x → ⊥
 none_some x e = cc
 
-too_many : (left left' : Option (List ℕ)) (input : List ℕ) → left ≡ Some input → length input ≤ input_limit → (bytes : List ℕ) → length bytes ≡ input_limit + 1 → Consumes left left' bytes → ⊥
+too_many : (left left' : Option (List ℕ)) (input : List ℕ) → left ≡ Some input → length input ≤ LONGEST_INPUT → (bytes : List ℕ) → length bytes ≡ LONGEST_INPUT + 1 → Consumes left left' bytes → ⊥
 too_many None left' input told short bytes count c = none_some input told
 too_many (Some xs) None input told short bytes count c = c
 too_many (Some xs) (Some ys) input told short bytes count c =
@@ -60,7 +61,7 @@ answered left source_faults taken sink_faults P source source' sink sink' input 
   tells_length = λ told-input told long source_fine. absurd (too_long_for (left source) (left source') input told-input read told long);
 }
   where
-    bound : length input ≤ input_limit → length input ≤ input_limit + 1
+    bound : length input ≤ LONGEST_INPUT → length input ≤ LONGEST_INPUT + 1
     bound h = omega (arith, h)
 
     other : (s : Status) → result ≡ s → (HasText s → ⊥) → (WriteFault ≡ s → ⊥) → ⊥
@@ -84,15 +85,15 @@ ran_out left source_faults taken sink_faults P source source' sink input read = 
   tells_length = λ told-input told long source_fine. inr refl;
 }
   where
-    bound : length input ≤ input_limit → length input ≤ input_limit + 1
+    bound : length input ≤ LONGEST_INPUT → length input ≤ LONGEST_INPUT + 1
     bound h = omega (arith, h)
 
 -- a reading that ends without an input
 pub unread : {S K : Type 0} (left : S → Option (List ℕ)) (source_faults : S → ℕ) (taken : K → Option (List ℕ)) (sink_faults : K → ℕ)
     (P : Texts) (source source' : S) (sink : K) (status : Status)
-    → ReadsUpTo (input_limit + 1) (left source) (left source')
+    → ReadsUpTo (LONGEST_INPUT + 1) (left source) (left source')
     → (status ≡ ReadFault → Rose (source_faults source) (source_faults source'))
-    → (status ≡ TooLong → ReadsCount (input_limit + 1) (left source) (left source'))
+    → (status ≡ TooLong → ReadsCount (LONGEST_INPUT + 1) (left source) (left source'))
     → (status ≡ ReadFault) ⊎ ((status ≡ TooLong) ⊎ (status ≡ NoMemory))
     → IsAnswered left source_faults taken sink_faults P source source' sink sink status
 unread left source_faults taken sink_faults P source source' sink status bounded fault long some = record {
@@ -131,5 +132,5 @@ unread left source_faults taken sink_faults P source source' sink status bounded
     memory_or_write : NoMemory ≡ WriteFault → ⊥
     memory_or_write e = cc
 
-    counted : (input : List ℕ) → left source ≡ Some input → length input ≤ input_limit → ReadsCount (input_limit + 1) (left source) (left source') → ⊥
+    counted : (input : List ℕ) → left source ≡ Some input → length input ≤ LONGEST_INPUT → ReadsCount (LONGEST_INPUT + 1) (left source) (left source') → ⊥
     counted input told short r = too_many (left source) (left source') input told short r.0 r.1 r.2

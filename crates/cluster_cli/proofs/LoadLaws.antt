@@ -18,8 +18,9 @@ use Rattle.unix_calls.specs.Turns.{turns_total}
 use Rattle.solo_laws.specs.Laws.{CanRun}
 use Rattle.cluster_cli.specs.Commands.{IsWithin}
 use Rattle.cluster_cli.specs.Load.{load_turns, load_text, Loads}
+use Rattle.unix_calls.specs.declared.limits.TheConstants.{MOST_TURNS}
 
-few : turns_total load_turns ≤ 200000
+few : turns_total load_turns ≤ MOST_TURNS
 unfolding load_turns
 few = omega arith
 

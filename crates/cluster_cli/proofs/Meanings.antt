@@ -8,7 +8,8 @@ use Rattle.unix_calls.specs.declared.World.{World}
 use Rattle.file_parts.specs.Parts.{Lines, world_lines, front_lines, schedule_lines, history_lines}
 use Rattle.script_words.specs.declared.faults.Fault.{Fault}
 use Rattle.script_words.specs.declared.faults.Kind.TheVariants.{UnknownWord}
-use Rattle.script_reader.specs.Files.{fault_at, read_part}
+use Rattle.script_words.specs.Kinds.{fault_at}
+use Rattle.script_reader.specs.Files.{read_part}
 use Rattle.script_laws.specs.Grammar.{IsFile}
 use Rattle.script_laws.proofs.Exact.{read_is_file}
 use Rattle.script_laws.proofs.Whole.{file_read}

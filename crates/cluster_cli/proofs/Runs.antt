@@ -15,8 +15,10 @@ use Rattle.unix_calls.specs.Valid.{IsValid}
 use Rattle.script_words.specs.declared.faults.Fault.{Fault}
 use Rattle.script_words.specs.declared.faults.Kind.{Kind}
 use Rattle.script_words.specs.Words.{Row, ◌>>=◌, is_same, is_number, is_skipped}
-use Rattle.script_words.specs.declared.faults.Kind.TheVariants.{NotUtf8, TooManyTurns, UnknownWord}
-use Rattle.script_reader.specs.Files.{fault_at, read_part}
+use Rattle.script_words.specs.declared.faults.Kind.TheVariants.{NotUtf8, TooManyTurns}
+use Rattle.script_words.specs.declared.faults.Kind.TheVariants.{UnknownWord}
+use Rattle.script_words.specs.Kinds.{fault_at}
+use Rattle.script_reader.specs.Files.{read_part}
 use Rattle.file_parts.specs.Parts.{is_only, world_lines, front_lines, schedule_lines, history_lines}
 use Rattle.unix_calls.specs.declared.Entry.{Entry}
 use Rattle.unix_calls.specs.Calls.{IsEntry}
@@ -30,11 +32,12 @@ use Rattle.solo_core.specs.Run.{run}
 use Rattle.solo_laws.proofs.Runs.{run_legal, run_follows, run_whole}
 use Rattle.solo_laws.proofs.Finishing.{quiet_finished}
 use Rattle.cluster_cli.specs.Replay.{run_text, Runs}
-use Rattle.cluster_cli.specs.Ends.{input_limit}
 use Rattle.solo_laws.specs.Laws.{CanRun}
 use Rattle.cluster_cli.specs.declared.input.Given.{Given}
 use Rattle.cluster_cli.specs.Found.{asks_many, is_many, many_nodes, meaning, with_schedule, with_turns, turns_given, refused_history, without_history, least, on_one_node, runnable}
 use Rattle.cluster_cli.specs.Input.{IsRun, Means}
+use Rattle.byte_ends.specs.declared.limits.TheConstants.{LONGEST_INPUT}
+use Rattle.unix_calls.specs.declared.limits.TheConstants.{MOST_NODES, MOST_TURNS}
 
 -- ---- one node
 some_none : (n : ℕ) → Some n ≡ None → ⊥
@@ -51,11 +54,11 @@ last_false : (a b : Bool) → a ≡ true → (a && b) ≡ false → b ≡ false
 last_false true b e h = h
 last_false false b e h = absurd (true_false (sym e))
 
-not_many : (n : ℕ) → 1 ≤ n → n ≤ 64 → is_many n ≡ false → n ≡ 1
+not_many : (n : ℕ) → 1 ≤ n → n ≤ MOST_NODES → is_many n ≡ false → n ≡ 1
 not_many n some few e = go (nat_lt 1 n) refl
   where
     go : (b : Bool) → nat_lt 1 n ≡ b → n ≡ 1
-    go true h = absurd (true_false (sym (le-leb n 64 few) ∙ last_false (nat_lt 1 n) (nat_le n 64) h e))
+    go true h = absurd (true_false (sym (le-leb n MOST_NODES few) ∙ last_false (nat_lt 1 n) (nat_le n MOST_NODES) h e))
     go false h = omega (arith, some, ltb-false 1 n h)
 
 -- a part whose lines don't ask for more has one node
@@ -72,7 +75,7 @@ one_node naming world number rows' (opens word {rows = rows} n d) e valid =
 -- turns that are counted: as many as they stand for, and not too many
 record IsCounted (s : SoFar) : Type 0 where
   count : turns_total s.turns ≡ s.count
-  few : s.count ≤ 200000
+  few : s.count ≤ MOST_TURNS
 
 total_more : (turns : List Turn) (turn : Turn) → turns_total (turns ++ turn ∷ []) ≡ turns_total turns + turns_in turn
 total_more [] turn = omega arith
@@ -87,30 +90,30 @@ err_ok x y e = cc
 some_same : {A : Type 0} (x y : A) → Some x ≡ Some y → x ≡ y
 some_same x y e = cc
 
-counted_few : (before : ℕ) (turn turn' : Turn) → counted before turn ≡ Ok (Some turn') → before + turns_in turn' ≤ 200000
+counted_few : (before : ℕ) (turn turn' : Turn) → counted before turn ≡ Ok (Some turn') → before + turns_in turn' ≤ MOST_TURNS
 unfolding counted
-counted_few before turn turn' e = go (nat_le (before + turns_in turn) 200000) refl e
+counted_few before turn turn' e = go (nat_le (before + turns_in turn) MOST_TURNS) refl e
   where
-    go : (b : Bool) → nat_le (before + turns_in turn) 200000 ≡ b → (if b then Ok (Some turn) else Err TooManyTurns) ≡ Ok (Some turn') → before + turns_in turn' ≤ 200000
-    go true h e' = subst (λ t. before + turns_in t ≤ 200000) (some_same turn turn' (ok_same _ (Some turn) (Some turn') refl e')) (leb-true (before + turns_in turn) 200000 h)
+    go : (b : Bool) → nat_le (before + turns_in turn) MOST_TURNS ≡ b → (if b then Ok (Some turn) else Err TooManyTurns) ≡ Ok (Some turn') → before + turns_in turn' ≤ MOST_TURNS
+    go true h e' = subst (λ t. before + turns_in t ≤ MOST_TURNS) (some_same turn turn' (ok_same _ (Some turn) (Some turn') refl e')) (leb-true (before + turns_in turn) MOST_TURNS h)
     go false h e' = absurd (err_ok TooManyTurns (Some turn') e')
 
-read_few : (nodes before : ℕ) (line : List ℕ) (turn : Turn) → read_turn nodes before line ≡ Ok (Some turn) → before + turns_in turn ≤ 200000
+read_few : (nodes before : ℕ) (line : List ℕ) (turn : Turn) → read_turn nodes before line ≡ Ok (Some turn) → before + turns_in turn ≤ MOST_TURNS
 unfolding read_turn
 read_few nodes before line turn e = at_text (is_utf8 line) e
   where
-    at_turn : (r : Result Turn Kind) → (r >>= λ t. counted before t) ≡ Ok (Some turn) → before + turns_in turn ≤ 200000
+    at_turn : (r : Result Turn Kind) → (r >>= λ t. counted before t) ≡ Ok (Some turn) → before + turns_in turn ≤ MOST_TURNS
     at_turn (Ok t) e' = counted_few before t turn e'
     at_turn (Err kind) e' = absurd (err_ok kind (Some turn) e')
 
     none_some : None ≡ Some turn → ⊥
     none_some h = cc
 
-    at_words : (b : Bool) → (if b then Ok None else (turn_of nodes (words line) >>= λ t. counted before t)) ≡ Ok (Some turn) → before + turns_in turn ≤ 200000
+    at_words : (b : Bool) → (if b then Ok None else (turn_of nodes (words line) >>= λ t. counted before t)) ≡ Ok (Some turn) → before + turns_in turn ≤ MOST_TURNS
     at_words true e' = absurd (none_some (ok_same _ None (Some turn) refl e'))
     at_words false e' = at_turn (turn_of nodes (words line)) e'
 
-    at_text : (b : Bool) → (if b then (if is_skipped (words line) then Ok None else (turn_of nodes (words line) >>= λ t. counted before t)) else Err NotUtf8) ≡ Ok (Some turn) → before + turns_in turn ≤ 200000
+    at_text : (b : Bool) → (if b then (if is_skipped (words line) then Ok None else (turn_of nodes (words line) >>= λ t. counted before t)) else Err NotUtf8) ≡ Ok (Some turn) → before + turns_in turn ≤ MOST_TURNS
     at_text true e' = at_words (is_skipped (words line)) e'
     at_text false e' = absurd (err_ok NotUtf8 (Some turn) e')
 
@@ -119,7 +122,7 @@ fault_stays nodes fault [] = refl
 fault_stays nodes fault (l ∷ ls) = fault_stays nodes fault ls
 
 step_on : (nodes : ℕ) (ls : List (List ℕ)) (s s' : SoFar) → ((t : SoFar) → IsCounted t → fold (after_line nodes) (Ok t) ls ≡ Ok s' → IsCounted s') → IsCounted s
-    → (r : Result (Option Turn) Kind) → ((turn : Turn) → r ≡ Ok (Some turn) → s.count + turns_in turn ≤ 200000) → fold (after_line nodes) (added s r) ls ≡ Ok s' → IsCounted s'
+    → (r : Result (Option Turn) Kind) → ((turn : Turn) → r ≡ Ok (Some turn) → s.count + turns_in turn ≤ MOST_TURNS) → fold (after_line nodes) (added s r) ls ≡ Ok s' → IsCounted s'
 step_on nodes ls s s' rest c (Err kind) few e =
     absurd (err_ok (record { line = s.number; kind = kind }) s' (sym (fault_stays nodes (record { line = s.number; kind = kind }) ls) ∙ e))
 step_on nodes ls s s' rest c (Ok None) few e = rest (record { turns = s.turns; count = s.count; number = s.number + 1 }) (record { count = c.count; few = c.few }) e
@@ -137,16 +140,16 @@ turns_of_ok (Ok s) turns e = (s, refl, ok_same _ s.turns turns refl e)
 turns_of_ok (Err fault) turns e = absurd (err_ok fault turns e)
 
 -- a schedule that is read stands for at most 200,000 turns
-few_turns : (nodes number : ℕ) (ls : List (List ℕ)) (turns : List Turn) → schedule nodes number ls ≡ Ok turns → turns_total turns ≤ 200000
+few_turns : (nodes number : ℕ) (ls : List (List ℕ)) (turns : List Turn) → schedule nodes number ls ≡ Ok turns → turns_total turns ≤ MOST_TURNS
 unfolding schedule
 few_turns nodes number ls turns e =
     let first : SoFar = record { turns = []; count = 0; number = number } in
     let last = turns_of_ok (fold (after_line nodes) (Ok first) ls) turns e in
     let c = counted_on nodes ls first last.0 (record { count = refl; few = omega arith }) last.1 in
-    subst (λ ts. turns_total ts ≤ 200000) last.2 (subst (λ n. n ≤ 200000) (sym c.count) c.few)
+    subst (λ ts. turns_total ts ≤ MOST_TURNS) last.2 (subst (λ n. n ≤ MOST_TURNS) (sym c.count) c.few)
 
-few_given : (nodes number : ℕ) (ls : Option (List (List ℕ))) (turns : List Turn) → turns_given nodes number ls ≡ Ok turns → turns_total turns ≤ 200000
-few_given nodes number None turns e = subst (λ ts. turns_total ts ≤ 200000) (ok_same _ (Auto 200000 ∷ []) turns refl e) (omega arith)
+few_given : (nodes number : ℕ) (ls : Option (List (List ℕ))) (turns : List Turn) → turns_given nodes number ls ≡ Ok turns → turns_total turns ≤ MOST_TURNS
+few_given nodes number None turns e = subst (λ ts. turns_total ts ≤ MOST_TURNS) (ok_same _ (Auto MOST_TURNS ∷ []) turns refl e) (omega arith)
 few_given nodes number (Some ls) turns e = few_turns nodes number ls turns e
 
 -- ---- an input that is run
@@ -154,7 +157,7 @@ with_turns_ok : (world : World) (r : Result (List Turn) Fault) (g : Given) → w
 with_turns_ok world (Ok turns) g e = (ap (λ (x : Given). x.world) (sym (ok_same _ _ g refl e)), ap (λ (x : Given). Ok x.turns) (ok_same _ _ g refl e))
 with_turns_ok world (Err fault) g e = absurd (err_ok fault g e)
 
-given_ok : (ls : List (List ℕ)) (r : Result World Fault) (g : Given) → with_schedule ls r ≡ Ok g → (r ≡ Ok g.world) × (turns_total g.turns ≤ 200000)
+given_ok : (ls : List (List ℕ)) (r : Result World Fault) (g : Given) → with_schedule ls r ≡ Ok g → (r ≡ Ok g.world) × (turns_total g.turns ≤ MOST_TURNS)
 given_ok ls (Ok world) g e =
     let t = with_turns_ok world (turns_given world.nodes (2 + length (world_lines ls)) (schedule_lines ls)) g e in
     (ap (λ (w : World). Ok w) (sym t.0), few_given world.nodes (2 + length (world_lines ls)) (schedule_lines ls) g.turns t.1)
@@ -220,20 +223,20 @@ lines_few bytes =
 taken_few : (test : List ℕ → Bool) (ls : List (List ℕ)) → length (take_while test ls) ≤ length ls
 taken_few test ls = let taken = length-take (prefix_len test ls) ls in omega (arith, taken)
 
-front_few : (input : List ℕ) → length input ≤ input_limit → length (front_lines (lines input)) ≤ 1048577
+front_few : (input : List ℕ) → length input ≤ LONGEST_INPUT → length (front_lines (lines input)) ≤ LONGEST_INPUT + 1
 front_few input short =
     let all = lines_few input in
     let front = taken_few (λ l. not (is_only (codes "history") l)) (lines input) in
     omega (arith, short, all, front)
 
 -- the number of the first line of a schedule, and of a history
-pub schedule_first : (input : List ℕ) → length input ≤ input_limit → 2 + length (world_lines (lines input)) ≤ 2 ^ 31
+pub schedule_first : (input : List ℕ) → length input ≤ LONGEST_INPUT → 2 + length (world_lines (lines input)) ≤ 2 ^ 31
 schedule_first input short =
     let front = front_few input short in
     let world = taken_few (λ l. not (is_only (codes "schedule") l)) (front_lines (lines input)) in
     omega (arith, front, world)
 
-pub history_first : (input : List ℕ) → length input ≤ input_limit → 2 + length (front_lines (lines input)) ≤ 2 ^ 31
+pub history_first : (input : List ℕ) → length input ≤ LONGEST_INPUT → 2 + length (front_lines (lines input)) ≤ 2 ^ 31
 history_first input short = let front = front_few input short in omega (arith, front)
 
 -- what is said of an input that is run

@@ -5,6 +5,8 @@ use Rattle.byte_ends.specs.Text.{IsNumber}
 use Rattle.cluster_cli.specs.declared.commands.Command.{Command}
 use Rattle.cluster_cli.specs.declared.commands.Command.TheVariants.{Replay, Audit, Make, Load as LoadCommand}
 use Rattle.cluster_cli.specs.declared.commands.Load.{Load}
+use Rattle.unix_calls.specs.declared.limits.TheConstants.{MOST_NODES}
+use Rattle.load_maker.specs.declared.limits.TheConstants.{LARGEST_LOAD}
 
 -- a word is 1 to 10 decimal digits of this number, which is below 2^32
 abbrev pub Spells : List ℕ → ℕ → Type 0
@@ -13,9 +15,9 @@ Spells word n = IsNumber word × (n ≡ digits_value 10 word)
 -- 1 to 64 nodes, 1 to 200 processes
 pub record IsWithin (nodes size : ℕ) : Type 0 where
   pub some_node : 1 ≤ nodes
-  pub few_nodes : nodes ≤ 64
+  pub few_nodes : nodes ≤ MOST_NODES
   pub some : 1 ≤ size
-  pub few : size ≤ 200
+  pub few : size ≤ LARGEST_LOAD
 
 -- the words are the numbers of a load
 pub record IsLoad (seed_word nodes_word size_word : List ℕ) (load : Load) : Type 0 where

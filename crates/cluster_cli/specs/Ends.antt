@@ -4,10 +4,7 @@ use Rattle.std.specs.Io.KnownBytes.{Consumes, Appends, IsAtEnd}
 use Rattle.byte_ends.specs.Causes.{Rose}
 use Rattle.cluster_cli.specs.declared.status.Status.{Status}
 use Rattle.cluster_cli.specs.declared.status.Status.TheVariants.{Done, BadFile, ReadFault, WriteFault, NoMemory, Illegal, TooLong}
-
--- how many bytes an input may have
-abbrev pub input_limit : ℕ
-input_limit = 1048576
+use Rattle.byte_ends.specs.declared.limits.TheConstants.{LONGEST_INPUT}
 
 -- a status with which a text is written
 abbrev pub HasText : Status → Type 0
@@ -24,7 +21,7 @@ Texts = Status → List ℕ → List ℕ → Type 0
 pub record IsRead (left left' : Option (List ℕ)) (input : List ℕ) : Type 0 where
   pub consumed : Consumes left left' input
   pub ended : IsAtEnd left'
-  pub short : length input ≤ input_limit
+  pub short : length input ≤ LONGEST_INPUT
 
 -- such a text was written
 abbrev pub WritesText : (List ℕ → Type 0) → Option (List ℕ) → Option (List ℕ) → Type 0
@@ -66,20 +63,20 @@ pub record IsAnswered {S K : Type 0} (left : S → Option (List ℕ)) (source_fa
   -- the source failed, and the sink is as it was
   pub read_fault : status ≡ ReadFault → Rose (source_faults source) (source_faults source') × (sink' ≡ sink)
   -- more bytes came than an input may have, and the sink is as it was
-  pub too_long : status ≡ TooLong → ReadsCount (input_limit + 1) (left source) (left source') × (sink' ≡ sink)
+  pub too_long : status ≡ TooLong → ReadsCount (LONGEST_INPUT + 1) (left source) (left source') × (sink' ≡ sink)
   -- the sink failed, and took a front of the very text
   pub write_fault : status ≡ WriteFault → Rose (sink_faults sink) (sink_faults sink')
       × AnswersFront P (left source) (left source') (taken sink) (taken sink')
   -- memory ran out before anything was written
   pub no_memory : status ≡ NoMemory → sink' ≡ sink
   -- whatever is answered, no more than one byte beyond the limit was read
-  pub bounded : ReadsUpTo (input_limit + 1) (left source) (left source')
+  pub bounded : ReadsUpTo (LONGEST_INPUT + 1) (left source) (left source')
   -- where nothing fails, each input that is short enough gets its text
-  pub answers : (input : List ℕ) → left source ≡ Some input → length input ≤ input_limit
+  pub answers : (input : List ℕ) → left source ≡ Some input → length input ≤ LONGEST_INPUT
       → ¬ Rose (source_faults source) (source_faults source') → ¬ Rose (sink_faults sink) (sink_faults sink')
       → HasText status ⊎ (status ≡ NoMemory)
   -- a longer input is told to be so, where the source does not fail
-  pub tells_length : (input : List ℕ) → left source ≡ Some input → input_limit < length input
+  pub tells_length : (input : List ℕ) → left source ≡ Some input → LONGEST_INPUT < length input
       → ¬ Rose (source_faults source) (source_faults source') → (status ≡ TooLong) ⊎ (status ≡ NoMemory)
 
 -- what a command that reads nothing answers, by its status, and what it did to the sink; P says which text is written

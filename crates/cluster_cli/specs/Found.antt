@@ -9,14 +9,16 @@ use Rattle.file_parts.specs.Parts.{Lines, world_lines, front_lines, schedule_lin
 use Rattle.script_words.specs.declared.faults.Fault.{Fault}
 use Rattle.script_words.specs.declared.faults.Kind.TheVariants.{UnknownWord}
 use Rattle.script_words.specs.Words.{Row, is_same, is_number}
-use Rattle.script_reader.specs.Files.{fault_at, read_part}
+use Rattle.script_words.specs.Kinds.{fault_at}
+use Rattle.script_reader.specs.Files.{read_part}
 use Rattle.run_text.specs.Schedule.{schedule}
 use Rattle.cluster_cli.specs.declared.input.Given.{Given}
+use Rattle.unix_calls.specs.declared.limits.TheConstants.{MOST_NODES, MOST_TURNS}
 
 -- ---- the world and the schedule
 -- the turns of a schedule part, whose first line has this number, or without one 200,000 by the rule of `auto`
 abbrev pub turns_given : ℕ → ℕ → Option Lines → Result (List Turn) Fault
-turns_given nodes number None = Ok (Auto 200000 ∷ [])
+turns_given nodes number None = Ok (Auto MOST_TURNS ∷ [])
 turns_given nodes number (Some ls) = schedule nodes number ls
 
 abbrev pub with_turns : World → Result (List Turn) Fault → Result Given Fault
@@ -43,7 +45,7 @@ without_history ls (Ok g) = refused_history (1 + length (front_lines ls)) g (his
 without_history ls (Err fault) = Err fault
 
 abbrev pub is_many : ℕ → Bool
-is_many n = nat_lt 1 n && nat_le n 64
+is_many n = nat_lt 1 n && nat_le n MOST_NODES
 
 -- the line of a cluster of more than one node
 abbrev pub asks_many : Row → Bool

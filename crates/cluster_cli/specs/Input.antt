@@ -6,8 +6,7 @@ use Rattle.unix_calls.specs.declared.World.{World}
 use Rattle.file_parts.specs.Parts.{Lines, world_lines, front_lines, schedule_lines, history_lines}
 use Rattle.script_words.specs.declared.Fault.{Fault}
 use Rattle.script_words.specs.declared.Kind.TheVariants.{UnknownWord}
-use Rattle.script_words.specs.Kinds.{name_of}
-use Rattle.script_reader.specs.Files.{fault_at}
+use Rattle.script_words.specs.Kinds.{fault_at, fault_text}
 use Rattle.script_laws.specs.Grammar.{IsFile}
 use Rattle.fault_laws.specs.Told.{IsLeastFault}
 use Rattle.cluster_cli.specs.declared.input.Given.{Given}
@@ -67,11 +66,11 @@ abbrev pub IsRefused : List ℕ → Fault → Type 0
 IsRefused input fault = IsLesser (asking_line input) input fault
 
 -- ---- what is said of a fault
-abbrev pub fault_text : Fault → List ℕ
-fault_text fault = codes "bad file: line " ++ (decimal fault.line ++ (codes ": " ++ (name_of fault.kind ++ codes "\n")))
+abbrev pub fault_line : Fault → List ℕ
+fault_line fault = fault_text fault ++ codes "\n"
 
 -- an input with a fault, and the text that says so
 pub record Refuses (Has : List ℕ → Fault → Type 0) (input output : List ℕ) : Type 0 where
   pub fault : Fault
   pub refused : Has input fault
-  pub writes : output ≡ fault_text fault
+  pub writes : output ≡ fault_line fault

@@ -16,6 +16,7 @@ use Rattle.solo_core.specs.declared.played.Played.{Played}
 use Rattle.solo_core.specs.Run.{run}
 use Rattle.cluster_cli.specs.declared.loads.Counts.{Counts}
 use Rattle.cluster_cli.specs.Replay.{is_empty}
+use Rattle.unix_calls.specs.declared.limits.TheConstants.{MOST_TURNS}
 
 -- a fork that made a process
 abbrev pub is_fork : Entry → Bool
@@ -28,7 +29,7 @@ fork_count history = length (filter is_fork history)
 
 -- how a made file is run: by the rule of `auto`
 unfoldable pub load_turns : List Turn
-load_turns = Auto 200000 ∷ []
+load_turns = Auto MOST_TURNS ∷ []
 
 -- how many entries a run has, how many processes were started or forked, and whether nothing is left to do
 abbrev pub counts_text : Counts → List ℕ

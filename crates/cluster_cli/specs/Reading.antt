@@ -8,7 +8,7 @@ use Rattle.script_words.specs.declared.faults.ReadRefusal.{ReadRefusal}
 use Rattle.script_words.specs.declared.faults.ReadRefusal.TheVariants.{Bad, NoMemory}
 
 -- a reading answers what is meant, or the fault, or that there is no memory
-abbrev pub IsReading : {A : Type 0} → Result A ReadRefusal → Result A Fault → Type 0
+abbrev pub IsReading : {A : Type 0} → Result A (ReadRefusal Fault) → Result A Fault → Type 0
 IsReading (Ok value) found = found ≡ Ok value
 IsReading (Err (Bad fault)) found = found ≡ Err fault
 IsReading (Err NoMemory) found = Unit {0}

@@ -2,8 +2,8 @@
 ghost use Rattle.std.specs.Prelude.{◌≡◌, ◌≤◌, ◌+◌, ℕ, IfOk, Ok, Err, All, length};
 ghost use Rattle.solo_core.specs.Run.{run};
 ghost use Rattle.solo_laws.specs.Laws.{CanRun};
-ghost use Rattle.cluster_cli.specs.Ends.{HasText, input_limit};
-ghost use Rattle.cluster_cli.specs.Input.{fault_text, Means};
+ghost use Rattle.cluster_cli.specs.Ends.{HasText};
+ghost use Rattle.cluster_cli.specs.Input.{fault_line, Means};
 ghost use Rattle.cluster_cli.specs.Replay.{run_text, Replays};
 ghost use Rattle.cluster_cli.specs.Reading.{AreParts};
 ghost use Rattle.cluster_cli.specs.Audit.{HasHistory, HasBadLine, bad_line_text, illegal_text, IsVerdict, Audits};
@@ -11,6 +11,7 @@ ghost use Rattle.byte_ends.specs.Text.{lines};
 ghost use Rattle.file_parts.specs.Parts.{IsPartOf, front_lines, history_lines};
 ghost use Rattle.unix_calls.specs.Calls.{EntryHasNames};
 ghost use Rattle.unix_calls.specs.Valid.{IsValid};
+ghost use Rattle.byte_ends.specs.declared.limits.TheConstants.{LONGEST_INPUT};
 
 use crate::input::{Given, read_given, read_runnable};
 use crate::status::Status;
@@ -33,14 +34,14 @@ pub struct Answer {
 
 /// The history of an input that is run, or its least fault.
 pub fn replay(alloc: Global, input: &[u8]) -> Result<Answer, NoMemory>
-    requires { length input.now ≤ input_limit }
+    requires { length input.now ≤ LONGEST_INPUT }
     ensures has_text { IfOk result (λ a. HasText a.status) }
     ensures text { IfOk result (λ a. Replays a.status input.now a.text.items) }
 {
     match read_runnable(alloc, input) {
         Err(ReadRefusal::NoMemory) => Err(NoMemory),
         Err(ReadRefusal::Bad(fault)) => {
-            let text = fault_text(alloc, &fault)?;
+            let text = fault_line(alloc, fault)?;
             Ok(Answer {
                 status: Status::BadFile,
                 text,
@@ -66,22 +67,17 @@ fn history_text(alloc: Global, given: &Given) -> Result<Vec<u8>, NoMemory>
     put_history(alloc, run.entries.as_slice(), run.is_quiet)
 }
 
-fn fault_text(alloc: Global, fault: &Fault) -> Result<Vec<u8>, AllocError>
-    ensures { IfOk result (λ text. text.items ≡ fault_text fault.now) }
+fn fault_line(alloc: Global, fault: Fault) -> Result<Vec<u8>, AllocError>
+    ensures { IfOk result (λ text. text.items ≡ fault_line fault) }
 {
     let mut text = String::new(alloc);
-    let line = fault.line;
-    text.push_str("bad file: line ")?;
-    write!(text, "{line}")?;
-    text.push_str(": ")?;
-    text.push_str(fault.kind.name())?;
-    text.push_str("\n")?;
+    write!(text, "{fault}\n")?;
     Ok(text.into_bytes())
 }
 
 /// The verdict on the history part of an input, or its first bad line, or the input's least fault.
 pub fn audit(alloc: Global, input: &[u8]) -> Result<Answer, NoMemory>
-    requires { length input.now ≤ input_limit }
+    requires { length input.now ≤ LONGEST_INPUT }
     ensures has_text { IfOk result (λ a. HasText a.status) }
     ensures text { IfOk result (λ a. Audits a.status input.now a.text.items) }
 {
@@ -89,7 +85,7 @@ pub fn audit(alloc: Global, input: &[u8]) -> Result<Answer, NoMemory>
     match read_given(alloc, input, &parts) {
         Err(ReadRefusal::NoMemory) => Err(NoMemory),
         Err(ReadRefusal::Bad(fault)) => {
-            let text = fault_text(alloc, &fault)?;
+            let text = fault_line(alloc, fault)?;
             Ok(Answer {
                 status: Status::BadFile,
                 text,
@@ -102,7 +98,7 @@ pub fn audit(alloc: Global, input: &[u8]) -> Result<Answer, NoMemory>
 // What is said of the history of an input that has this meaning.
 #[tactic(auto, using(crate::proofs::Histories::has_names))]
 fn heard(alloc: Global, input: &[u8], parts: &Parts, given: &Given) -> Result<Answer, NoMemory>
-    requires short { length input.now ≤ input_limit }
+    requires short { length input.now ≤ LONGEST_INPUT }
     requires parts { AreParts input.now parts.now }
     requires means { Means input.now given.now }
     ensures has_text { IfOk result (λ a. HasText a.status) }
@@ -134,7 +130,7 @@ fn judged(alloc: Global, world: &World, entries: &[Entry]) -> Result<Answer, NoM
 // A history part's entries; without one there are none.
 #[tactic(auto, using(crate::proofs::Runs::history_first))]
 fn history_given(alloc: Global, input: &[u8], part: Option<Span>) -> Result<Vec<Entry>, TextRefusal>
-    requires short { length input.now ≤ input_limit }
+    requires short { length input.now ≤ LONGEST_INPUT }
     requires part { IsPartOf input.now (history_lines (lines input.now)) (2 + length (front_lines (lines input.now))) part }
     ensures entries { IfOk result (λ v. HasHistory (history_lines (lines input.now)) v.items) }
     ensures bad { (line : ℕ) → result ≡ Err (TextRefusal.BadLine line) → HasBadLine (history_lines (lines input.now)) (2 + length (front_lines (lines input.now))) line }

@@ -3,6 +3,8 @@ ghost use Rattle.std.specs.Prelude.{◌≡◌, ◌↔◌, ◌∷◌, [], map, Is
 ghost use Rattle.cluster_cli.specs.Commands.{Spells, IsLoad, NamesLoad, Says, SaysNothing};
 
 use byte_ends::number_at;
+use load_maker::LARGEST_LOAD;
+use unix_calls::MOST_NODES;
 
 /// What a command line asks.
 #[derive(Clone, Copy, Debug, PartialEq, Eq)]
@@ -74,7 +76,7 @@ fn load_of(seed: &str, nodes: &str, size: &str) -> Option<Load>
     let seed = number_at(seed.as_bytes())?;
     let nodes = number_at(nodes.as_bytes())?;
     let size = number_at(size.as_bytes())?;
-    if (1..=64).contains(&nodes) && (1..=200).contains(&size) {
+    if (1..=MOST_NODES).contains(&nodes) && (1..=LARGEST_LOAD).contains(&size) {
         Some(Load { seed, nodes, size })
     } else {
         None

@@ -6,25 +6,19 @@ ghost use Rattle.std.specs.Prelude.{Result, ◌&&◌, ◌+◌};
 ghost use Rattle.std.specs.Str.Parse.{digits_value};
 ghost use Rattle.script_words.specs.declared.faults.Fault.{Fault};
 ghost use Rattle.script_words.specs.Words.{is_number};
-ghost use Rattle.script_reader.specs.Files.{fault_at};
+ghost use Rattle.script_words.specs.Kinds.{fault_at};
 ghost use Rattle.cluster_cli.specs.Reading.{IsReading, AreParts};
-ghost use Rattle.cluster_cli.specs.Ends.{input_limit};
 ghost use Rattle.cluster_cli.specs.Found as spec;
+ghost use Rattle.byte_ends.specs.declared.limits.TheConstants.{LONGEST_INPUT};
 
 use byte_ends::{next_line, number_at, take_words};
 use file_parts::{Parts, Span, split};
 use run_text::read_schedule;
 use script_reader::read_file;
-use script_words::{Fault, Kind, ReadRefusal, is_word};
+use script_words::{Kind, ReadRefusal, bad, is_word};
 use std::alloc::Global;
-use unix_calls::{Turn, World};
+use unix_calls::{MOST_NODES, MOST_TURNS, Turn, World};
 use unix_names::{NoMemory, Seq};
-
-/// How many turns are done by the rule of `auto` where a file has no schedule.
-pub const DEFAULT_TURNS: u32 = 200_000;
-
-/// The most nodes of a cluster.
-const MOST_NODES: u32 = 64;
 
 /// A world, and the turns of its schedule.
 #[derive(Debug, Drop)]
@@ -35,7 +29,7 @@ pub struct Given {
 
 /// The world and the schedule of an input that is to be run on one node, or its least fault; a history is one.
 pub fn read_runnable(alloc: Global, input: &[u8]) -> Result<Given, ReadRefusal>
-    requires { length input.now ≤ input_limit }
+    requires { length input.now ≤ LONGEST_INPUT }
     ensures { IsReading result (spec.runnable input.now) }
 {
     let parts = split(input);
@@ -53,13 +47,13 @@ fn on_one_node(many: Option<u32>, read: Result<Given, ReadRefusal>) -> Result<Gi
     match read {
         Err(ReadRefusal::Bad(fault)) if fault.line < line => Err(ReadRefusal::Bad(fault)),
         Err(ReadRefusal::NoMemory) => Err(ReadRefusal::NoMemory),
-        _ => Err(unknown_word(line)),
+        _ => Err(bad(line, Kind::UnknownWord)),
     }
 }
 
 /// The world and the schedule of an input whose parts these are, or its least fault.
 pub fn read_given(alloc: Global, input: &[u8], parts: &Parts) -> Result<Given, ReadRefusal>
-    requires short { length input.now ≤ input_limit }
+    requires short { length input.now ≤ LONGEST_INPUT }
     requires parts { AreParts input.now parts.now }
     ensures { IsReading result (spec.meaning input.now) }
 {
@@ -75,14 +69,14 @@ fn turns_given(
     part: Option<Span>,
     nodes: u32,
 ) -> Result<Seq<Turn>, ReadRefusal>
-    requires short { length input.now ≤ input_limit }
+    requires short { length input.now ≤ LONGEST_INPUT }
     requires part { IsPartOf input.now (schedule_lines (lines input.now)) (2 + length (world_lines (lines input.now))) part }
     ensures { IsReading result (spec.turns_given nodes (2 + length (world_lines (lines input.now))) (schedule_lines (lines input.now))) }
 {
     match part {
         None => {
             let mut turns = Seq::new(alloc);
-            turns.push(Turn::Auto(DEFAULT_TURNS))?;
+            turns.push(Turn::Auto(MOST_TURNS))?;
             Ok(turns)
         }
         Some(part) => Ok(Seq::from_vec(read_schedule(alloc, input, part, nodes)?)),
@@ -90,7 +84,7 @@ fn turns_given(
 }
 
 fn read_without_history(alloc: Global, input: &[u8], parts: &Parts) -> Result<Given, ReadRefusal>
-    requires short { length input.now ≤ input_limit }
+    requires short { length input.now ≤ LONGEST_INPUT }
     requires parts { AreParts input.now parts.now }
     ensures { IsReading result (spec.without_history (lines input.now) (spec.meaning input.now)) }
 {
@@ -98,22 +92,13 @@ fn read_without_history(alloc: Global, input: &[u8], parts: &Parts) -> Result<Gi
     match parts.history {
         None => Ok(given),
         // Its dividing line stands before it.
-        Some(part) => Err(unknown_word(part.first_line - 1)),
+        Some(part) => Err(bad(part.first_line - 1, Kind::UnknownWord)),
     }
-}
-
-fn unknown_word(line: u32) -> ReadRefusal
-    ensures { result ≡ ReadRefusal.Bad (fault_at line Kind.UnknownWord) }
-{
-    ReadRefusal::Bad(Fault {
-        line,
-        kind: Kind::UnknownWord,
-    })
 }
 
 // The number of the first line that asks for more than one node.
 fn many_nodes(alloc: Global, input: &[u8], part: Span) -> Result<Option<u32>, NoMemory>
-    requires short { length input.now ≤ input_limit }
+    requires short { length input.now ≤ LONGEST_INPUT }
     requires part { IsPart input.now (world_lines (lines input.now)) 1 part }
     ensures { IfOk result (λ n. n ≡ spec.many_nodes 1 (map words_in (world_lines (lines input.now)))) }
 {

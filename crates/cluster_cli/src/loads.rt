@@ -6,14 +6,13 @@ ghost use Rattle.cluster_cli.specs.Commands.{IsWithin};
 ghost use Rattle.cluster_cli.specs.Load.{is_fork, fork_count, load_turns, counts_text, load_text, Loads};
 ghost use Rattle.cluster_cli.specs.Replay.{is_empty};
 
-use crate::input::DEFAULT_TURNS;
 use solo_core::run;
 use file_parts::Span;
 use load_maker::make;
 use script_reader::read_file;
 use script_words::ReadRefusal;
 use std::alloc::{AllocError, Global};
-use unix_calls::{Call, Entry, Reply, Turn, World};
+use unix_calls::{MOST_TURNS, Call, Entry, Reply, Turn, World};
 use unix_names::{NoMemory, Seq};
 
 /// What the run of a made file comes to.
@@ -52,7 +51,7 @@ fn load_turns(alloc: Global) -> Result<Seq<Turn>, NoMemory>
     ensures { IfOk result (λ turns. turns ≡ load_turns) }
 {
     let mut turns = Seq::new(alloc);
-    turns.push(Turn::Auto(DEFAULT_TURNS))?;
+    turns.push(Turn::Auto(MOST_TURNS))?;
     Ok(turns)
 }
 

@@ -4,7 +4,7 @@ ghost use Rattle.std.specs.Io.KnownBytes.{Appends};
 ghost use Rattle.byte_ends.specs.Causes.{Rose};
 ghost use Rattle.load_maker.specs.Made.{made};
 ghost use Rattle.cluster_cli.specs.declared.commands.Load.{Load};
-ghost use Rattle.cluster_cli.specs.Ends.{IsRead, ReadsUpTo, ReadsCount, IsAnswered, IsMade, input_limit};
+ghost use Rattle.cluster_cli.specs.Ends.{IsRead, ReadsUpTo, ReadsCount, IsAnswered, IsMade};
 ghost use Rattle.cluster_cli.specs.Commands.{IsWithin, Says, SaysNothing};
 ghost use Rattle.cluster_cli.specs.Replay.{Replays};
 ghost use Rattle.cluster_cli.specs.Audit.{Audits};
@@ -14,12 +14,9 @@ use crate::answers::{audit, replay};
 use crate::commands::{Command, command_of};
 use crate::loads::load;
 use crate::status::Status;
-use byte_ends::{Hold, ReadEnd, Sink, Source, read_all, write_all};
+use byte_ends::{Hold, LONGEST_INPUT, ReadEnd, Sink, Source, read_all, write_all};
 use load_maker::make;
 use std::alloc::Global;
-
-/// How many bytes an input may have.
-const INPUT_LIMIT: usize = 1_048_576;
 
 /// Does what the words of the command line ask. Nothing is asked of the hold.
 pub fn vproc_top<S: Source, K: Sink, H: Hold + Sync>(
@@ -84,10 +81,10 @@ fn read_input<S: Source>(alloc: Global, source: &mut S) -> Result<Vec<u8>, Statu
     ensures read { IfOk result (λ v. IsRead (S.left source.old) (S.left source.new) v.items) }
     ensures some { IfErr result (λ s. (s ≡ Status.ReadFault) ⊎ ((s ≡ Status.TooLong) ⊎ (s ≡ Status.NoMemory))) }
     ensures read_fault { result ≡ Err Status.ReadFault → Rose (S.faults source.old) (S.faults source.new) }
-    ensures too_long { result ≡ Err Status.TooLong → ReadsCount (input_limit + 1) (S.left source.old) (S.left source.new) }
-    ensures bounded { ReadsUpTo (input_limit + 1) (S.left source.old) (S.left source.new) }
+    ensures too_long { result ≡ Err Status.TooLong → ReadsCount (LONGEST_INPUT + 1) (S.left source.old) (S.left source.new) }
+    ensures bounded { ReadsUpTo (LONGEST_INPUT + 1) (S.left source.old) (S.left source.new) }
 {
-    match read_all(alloc, source, INPUT_LIMIT) {
+    match read_all(alloc, source, LONGEST_INPUT) {
         Ok(input) => Ok(input),
         Err(ReadEnd::ReadFault) => Err(Status::ReadFault),
         Err(ReadEnd::TooLong) => Err(Status::TooLong),

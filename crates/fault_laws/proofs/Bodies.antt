@@ -5,40 +5,24 @@ use Rattle.std.specs.List.{AllZip}
 use Rattle.std.proofs.lemmas.Bool.{leb-true, leb-false, and_parts}
 use Rattle.byte_ends.specs.Text.{words}
 use Rattle.unix_calls.specs.declared.work.Work.{Work}
-use Rattle.unix_calls.specs.Work.{works, total_work}
+use Rattle.unix_calls.specs.Work.{works, total_work, is_little}
 use Rattle.script_words.specs.Words.{Row}
-use Rattle.script_reader.specs.Files.{begins_with, words_behind, Told, scripts_of, is_little}
+use Rattle.script_reader.specs.Files.{begins_with, words_behind, Told, scripts_of}
 use Rattle.script_laws.proofs.Parts.{told_of}
 use Rattle.fault_laws.specs.Context.{script_names}
-use Rattle.fault_laws.specs.Faults.{IsFirst, started_work, IsMuch, Overworks}
+use Rattle.fault_laws.specs.Faults.{IsFirst, started_work, Overworks}
 use Rattle.fault_laws.proofs.Around.{HasCluster}
 use Rattle.fault_laws.proofs.Counted.{starts_behind}
 use Rattle.fault_laws.proofs.Weights.{have_same}
 use Rattle.fault_laws.proofs.Weighed.{StandAt, have_bodies}
 use Rattle.fault_laws.proofs.Started.{scripts_started, started_same, AreNamed, AllOk, told_named, named_one, taken, rows_taken}
-use Rattle.unix_calls.specs.declared.limits.TheConstants.{MOST_PROCESSES, MOST_WORK}
 
 -- the lines up to and with this one are read without a fault
 abbrev pub AreReadTo : List (List ℕ) → ℕ → Type 0
 AreReadTo lines k = (j : ℕ) (t : Told) → j ≤ k → slice_get (told_of lines) j ≡ Some t → IsOk t.1
 
--- ---- work that is little is not much
-much_more : (w : Work) → is_little w ≡ false → IsMuch w
-much_more w e = go (nat_le w.processes MOST_PROCESSES) (nat_le w.statements MOST_WORK) refl refl e
-  where
-    go : (a b : Bool) → nat_le w.processes MOST_PROCESSES ≡ a → nat_le w.statements MOST_WORK ≡ b → a && b ≡ false → IsMuch w
-    go false b ea eb h = inl (leb-false w.processes MOST_PROCESSES ea)
-    go true false ea eb h = inr (leb-false w.statements MOST_WORK eb)
-    go true true ea eb h = cc
-
-little_not : (w : Work) → is_little w ≡ true → IsMuch w → ⊥
-little_not w e much =
-    let p = and_parts (nat_le w.processes MOST_PROCESSES) (nat_le w.statements MOST_WORK) e in
-    no (leb-true w.processes MOST_PROCESSES p.0) (leb-true w.statements MOST_WORK p.1) much
-  where
-    no : w.processes ≤ MOST_PROCESSES → w.statements ≤ MOST_WORK → IsMuch w → ⊥
-    no a b (inl m) = omega arith
-    no a b (inr m) = omega arith
+not_both : (b : Bool) → b ≡ true → b ≡ false → ⊥
+not_both b yes' no' = cc
 
 -- ---- the lines up to and with one
 module _ (lines : List (List ℕ)) (k : ℕ) where
@@ -67,7 +51,7 @@ overworks lines k row cluster read there start much = record {
   bodies = have_bodies lines cluster;
   numbers = scripts_started (take (k + 1) (told_of lines));
   started = are_started lines k read;
-  much = much_more _ (ap is_little (sym (started_same (works (scripts_of (told_of lines))) (take (k + 1) (told_of lines)))) ∙ much);
+  much = ap is_little (sym (started_same (works (scripts_of (told_of lines))) (take (k + 1) (told_of lines)))) ∙ much;
 }
 
 pub overworks_not : (lines : List (List ℕ)) (k : ℕ) → HasCluster lines → AreReadTo lines k
@@ -77,4 +61,4 @@ overworks_not lines k cluster read little over =
     let numbers : over.numbers ≡ scripts_started (take (k + 1) (told_of lines)) = named_one _ _ over.numbers (scripts_started (take (k + 1) (told_of lines))) over.started (are_started lines k read) in
     let same : started_work (works over.scripts) over.numbers ≡ total_work (works (scripts_of (told_of lines))) (starts_behind [] (take (k + 1) (told_of lines))) =
     ap (λ (ws : List Work). started_work ws over.numbers) scripts ∙ ap (started_work (works (scripts_of (told_of lines)))) numbers ∙ sym (started_same (works (scripts_of (told_of lines))) (take (k + 1) (told_of lines))) in
-    little_not _ (ap is_little same ∙ little) over.much
+    not_both _ (ap is_little same ∙ little) over.much

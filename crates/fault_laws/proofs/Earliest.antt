@@ -5,7 +5,7 @@ use Rattle.std.specs.Str.{is_utf8}
 use Rattle.std.proofs.lemmas.Bool.{cases_order}
 use Rattle.std.proofs.lemmas.Option.{slice_get-map, slice_get_within}
 use Rattle.byte_ends.specs.Text.{words}
-use Rattle.unix_calls.specs.Work.{works, total_work}
+use Rattle.unix_calls.specs.Work.{works, total_work, is_little}
 use Rattle.script_words.specs.declared.faults.Kind.{Kind}
 use Rattle.script_words.specs.declared.faults.Kind.TheVariants.{NotUtf8, NoClusterLine, UnknownWord, TooMuchWork, NoStart}
 use Rattle.script_words.specs.declared.faults.Fault.{Fault}
@@ -16,7 +16,8 @@ use Rattle.script_reader.specs.declared.lines.Item.{Item}
 use Rattle.script_reader.specs.declared.lines.Item.TheVariants as item
 use Rattle.script_reader.specs.declared.lines.StartLine.{StartLine}
 use Rattle.script_reader.specs.Lines.{read_row, read_line, place_after}
-use Rattle.script_reader.specs.Files.{begins_with, Told, scripts_of, is_little, fault_at, silent_kind}
+use Rattle.script_words.specs.Kinds.{fault_at}
+use Rattle.script_reader.specs.Files.{begins_with, Told, scripts_of, silent_kind}
 use Rattle.script_laws.proofs.Words.{start_word, begins_so}
 use Rattle.script_laws.proofs.Results.{then_ok}
 use Rattle.script_laws.proofs.Lines.{Step, silent, opens, begins, ends, says, starts, step}

@@ -9,7 +9,8 @@ use Rattle.unix_calls.specs.Work.{works}
 use Rattle.script_words.specs.declared.faults.Kind.TheVariants.{UnknownWord, NoStart}
 use Rattle.script_words.specs.declared.faults.Fault.{Fault}
 use Rattle.script_reader.specs.declared.places.Place.{Place}
-use Rattle.script_reader.specs.Files.{first_place, place_behind, scripts_of, fault_at, judged, end_kind, silent_kind, ended_world, whole_world, told_part, read_part}
+use Rattle.script_words.specs.Kinds.{fault_at}
+use Rattle.script_reader.specs.Files.{first_place, place_behind, scripts_of, judged, end_kind, silent_kind, ended_world, whole_world, told_part, read_part}
 use Rattle.script_laws.specs.Grammar.{IsFile}
 use Rattle.script_laws.proofs.Parts.{names_of, told_of, world_of, IsWhole, whole}
 use Rattle.script_laws.proofs.Whole.{file_read}

@@ -3,7 +3,7 @@ use Rattle.std.proofs.Common.{◌≡◌, ◌⊎◌, inl, inr, ℕ, zero, suc, �
 use Rattle.std.specs.Prelude.{slice_get, IsOk}
 use Rattle.unix_calls.specs.declared.Start.{Start}
 use Rattle.unix_calls.specs.declared.Work.{Work}
-use Rattle.unix_calls.specs.Work.{total_work}
+use Rattle.unix_calls.specs.Work.{total_work, is_little}
 use Rattle.script_words.specs.declared.faults.Kind.{Kind}
 use Rattle.script_words.specs.declared.faults.Kind.TheVariants.{TooMuchWork}
 use Rattle.script_words.specs.declared.faults.Fault.{Fault}
@@ -11,7 +11,8 @@ use Rattle.script_words.specs.Words.{Row}
 use Rattle.script_reader.specs.declared.lines.Item.{Item}
 use Rattle.script_reader.specs.declared.lines.Item.TheVariants as item
 use Rattle.script_reader.specs.declared.lines.StartLine.{StartLine}
-use Rattle.script_reader.specs.Files.{Told, with_start, is_little, fault_at, judged}
+use Rattle.script_words.specs.Kinds.{fault_at}
+use Rattle.script_reader.specs.Files.{Told, with_start, judged}
 use Rattle.script_laws.proofs.Walks.{starts_now, IsLittle, judged_next}
 use Rattle.fault_laws.proofs.Counted.{starts_behind}
 

@@ -7,14 +7,14 @@ use Rattle.unix_calls.specs.declared.Script.{Script}
 use Rattle.unix_calls.specs.declared.Statement.{Statement}
 use Rattle.unix_calls.specs.declared.Statement.TheVariants.{Fork, Exec}
 use Rattle.unix_calls.specs.declared.Work.{Work}
-use Rattle.unix_calls.specs.Work.{work, together, work_of, works}
+use Rattle.unix_calls.specs.Work.{work, together, work_of, works, is_little}
 use Rattle.script_words.specs.declared.Kind.{Kind}
 use Rattle.script_words.specs.declared.Kind.TheVariants.{NotUtf8, NoClusterLine, UnknownWord, TooManyScripts, TooManyStatements, TooManyStarts, TooMuchWork, NoStart}
 use Rattle.script_words.specs.Words.{Word, Row, word_at}
 use Rattle.script_reader.specs.Files.{begins_with, words_behind, with_said}
 use Rattle.fault_laws.specs.Context.{is_begun, is_open, is_statement, statement_count, script_names, start_names}
 use Rattle.fault_laws.specs.Patterns.{IsWrong}
-use Rattle.unix_calls.specs.declared.limits.TheConstants.{MOST_SCRIPTS, MOST_STATEMENTS, MOST_STARTS, MOST_PROCESSES, MOST_WORK}
+use Rattle.unix_calls.specs.declared.limits.TheConstants.{MOST_SCRIPTS, MOST_STATEMENTS, MOST_STARTS}
 
 -- What is looked at, in this order, where several faults stand at one line.
 pub data Aspect : Type 0 where
@@ -84,10 +84,6 @@ HaveBodies lines scripts = (before : List Statement) × Bodies lines 0 (map word
 abbrev pub started_work : List Work → List ℕ → Work
 started_work works numbers = fold (λ total n. together total (work_of works n)) (work 0 0) numbers
 
--- more than 1,024 processes, or more than 4,096 statements
-abbrev pub IsMuch : Work → Type 0
-IsMuch w = (MOST_PROCESSES < w.processes) ⊎ (MOST_WORK < w.statements)
-
 -- the starts up to and with the line that stands behind so many others make too much work
 pub record Overworks (lines : List (List ℕ)) (k : ℕ) : Type 0 where
   pub row : Row
@@ -97,7 +93,7 @@ pub record Overworks (lines : List (List ℕ)) (k : ℕ) : Type 0 where
   pub bodies : HaveBodies lines scripts
   pub numbers : List ℕ
   pub started : AllZip (IsFirst (script_names (map words lines))) (words_behind (codes "start") 2 (take (k + 1) (map words lines))) numbers
-  pub much : IsMuch (started_work (works scripts) numbers)
+  pub much : is_little (started_work (works scripts) numbers) ≡ false
 
 -- ---- the faults of a part
 -- where the last line stands, or would stand

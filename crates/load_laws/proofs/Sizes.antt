@@ -10,18 +10,20 @@ use Rattle.std.specs.Fmt.{decimal}
 use Rattle.script_laws.specs.Grammar.{Naming}
 use Rattle.load_maker.specs.Made.{Row, drawn, stepped, statement_of, worker_name, leader_name, child_name, start_name, child_count, leader_count, follower_count, worker_count}
 use Rattle.load_laws.specs.Worlds.{firsts, statement_for}
+use Rattle.unix_calls.specs.declared.limits.TheConstants.{MOST_NODES}
+use Rattle.load_maker.specs.declared.limits.TheConstants.{LARGEST_LOAD}
 
 -- a cluster of some nodes, of which one in nine processes leads
 pub record AreSizes (nodes leaders followers workers : ℕ) : Type 0 where
   pub some_node : 1 ≤ nodes
-  pub few_nodes : nodes ≤ 64
+  pub few_nodes : nodes ≤ MOST_NODES
   pub some_leader : 1 ≤ leaders
   pub few_leaders : leaders ≤ 23
   pub are_workers : workers ≡ min followers 8
   pub led : followers ≤ 8 * leaders
-  pub all : leaders + followers ≤ 200
+  pub all : leaders + followers ≤ LARGEST_LOAD
 
-pub sizes : (nodes size : ℕ) → 1 ≤ nodes → nodes ≤ 64 → 1 ≤ size → size ≤ 200 → AreSizes nodes (leader_count size) (follower_count size) (worker_count size)
+pub sizes : (nodes size : ℕ) → 1 ≤ nodes → nodes ≤ MOST_NODES → 1 ≤ size → size ≤ LARGEST_LOAD → AreSizes nodes (leader_count size) (follower_count size) (worker_count size)
 sizes nodes size a b c d = record {
   some_node = a;
   few_nodes = b;

@@ -1,5 +1,6 @@
 -- a made world can be run
-use Rattle.std.proofs.Common.{◌≡◌, ◌≢◌, ◌++◌, ℕ, ◌+◌, ◌*◌, ◌%◌, ◌<◌, ◌≤◌, List, length, length-append, take, sym, ap, subst, arith, mod-lt}
+use Rattle.std.proofs.Common.{◌≡◌, ◌≢◌, ◌++◌, ℕ, ◌+◌, ◌*◌, ◌%◌, ◌<◌, ◌≤◌, List, length, length-append, take, refl, sym, ap, ◌∙◌, subst, arith, mod-lt}
+use Rattle.std.proofs.lemmas.Bool.{le-leb}
 use Rattle.std.proofs.lemmas.List.Elements.{All-from_recursion, All-append, All-cons}
 use Rattle.unix_names.specs.declared.Signal.TheVariants.{Usr1}
 use Rattle.unix_names.specs.declared.Act.TheVariants.{Catch}
@@ -9,7 +10,10 @@ use Rattle.unix_calls.specs.declared.Start.{Start}
 use Rattle.unix_calls.specs.declared.Statement.{Statement}
 use Rattle.unix_calls.specs.declared.Statement.TheVariants as statement
 use Rattle.unix_calls.specs.declared.World.{World}
-use Rattle.unix_calls.specs.Valid.{EachAt, IsStatement, IsScript, IsStart, IsLittleWork, IsValid}
+use Rattle.unix_calls.specs.Valid.{EachAt, IsStatement, IsScript, IsStart, IsValid}
+use Rattle.unix_calls.specs.Work.{is_little}
+use Rattle.unix_calls.specs.declared.limits.TheConstants.{MOST_PROCESSES, MOST_WORK}
+use Rattle.unix_names.specs.declared.limits.TheConstants.{PIDS_PER_NODE}
 use Rattle.load_maker.specs.Made.{Row, drawn, stepped, after_statement, after_workers, after_leaders, after_children, child_count}
 use Rattle.load_laws.specs.Worlds.{firsts, drawn_statement, worker, fork, wait, leader, start, world_of}
 use Rattle.load_laws.proofs.Lists.{length-firsts, All-firsts, each-firsts, each-append, take-firsts}
@@ -78,7 +82,7 @@ module _ (seed nodes leaders followers workers : ℕ) (s : AreSizes nodes leader
     node = mod-lt j s.some_node;
     script = let many = many-scripts in omega arith;
     var = omega arith;
-    pid = ap (λ n. 1000000 * (j % nodes) + 2 + n) (sym (starts-before nodes workers j s.some_node));
+    pid = ap (λ n. PIDS_PER_NODE * (j % nodes) + 2 + n) (sym (starts-before nodes workers j s.some_node));
     own_var = All-firsts (λ other. other.var ≢ workers + j) (start nodes workers) j (λ i less e. omega arith);
     joined = tt;
   }
@@ -98,5 +102,6 @@ module _ (seed nodes leaders followers workers : ℕ) (s : AreSizes nodes leader
     scripts = scripts-valid;
     starts = starts-valid;
     work = let all = s.all in
-        subst IsLittleWork (sym (whole-work nodes leaders followers workers s seed (after_workers workers seed))) (omega arith, omega arith);
+        ap is_little (whole-work nodes leaders followers workers s seed (after_workers workers seed))
+            ∙ rw (le-leb (leaders + followers) MOST_PROCESSES (omega arith), le-leb (2 * leaders + 10 * followers) MOST_WORK (omega arith)) refl;
   }

@@ -1,17 +1,20 @@
 -- What is true of each made file.
 use Rattle.std.specs.Prelude.{◌≡◌, ℕ, ◌+◌, ◌*◌, ◌≤◌, None, Ok, ◌++◌, length}
 use Rattle.byte_ends.specs.Text.{lines}
+use Rattle.byte_ends.specs.declared.limits.TheConstants.{LONGEST_INPUT}
+use Rattle.unix_calls.specs.declared.limits.TheConstants.{MOST_NODES}
 use Rattle.unix_calls.specs.Work.{work, works, total_work}
 use Rattle.unix_calls.specs.Valid.{IsValid}
 use Rattle.file_parts.specs.Parts.{world_lines, schedule_lines, history_lines}
 use Rattle.script_reader.specs.Files.{read_part}
 use Rattle.script_laws.specs.Grammar.{IsFile}
+use Rattle.load_maker.specs.declared.limits.TheConstants.{LARGEST_LOAD}
 use Rattle.load_maker.specs.Made.{made, child_count, leader_count, follower_count, worker_count}
 use Rattle.load_laws.specs.Worlds.{firsts, made_world}
 
 -- what holds for each seed, 1 to 64 nodes and 1 to 200 processes
 abbrev pub ForEach : (ℕ → ℕ → ℕ → Type 0) → Type 0
-ForEach P = (seed nodes size : ℕ) → 1 ≤ nodes → nodes ≤ 64 → 1 ≤ size → size ≤ 200 → P seed nodes size
+ForEach P = (seed nodes size : ℕ) → 1 ≤ nodes → nodes ≤ MOST_NODES → 1 ≤ size → size ≤ LARGEST_LOAD → P seed nodes size
 
 -- a made file is of the grammar, and means its world
 abbrev pub MadeIsFile : Type 0
@@ -42,4 +45,4 @@ MadeIsOnePart = ForEach (λ seed nodes size. (world_lines (lines (made seed node
 
 -- it is no longer than an input may be
 abbrev pub MadeIsShort : Type 0
-MadeIsShort = ForEach (λ seed nodes size. length (made seed nodes size) ≤ 1048576)
+MadeIsShort = ForEach (λ seed nodes size. length (made seed nodes size) ≤ LONGEST_INPUT)

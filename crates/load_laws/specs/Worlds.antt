@@ -11,6 +11,7 @@ use Rattle.unix_calls.specs.declared.Statement.{Statement}
 use Rattle.unix_calls.specs.declared.Statement.TheVariants as statement
 use Rattle.unix_calls.specs.declared.World.{World}
 use Rattle.load_maker.specs.Made.{stepped, drawn, after_statement, after_workers, after_children, after_leaders, child_count, leader_count, follower_count, worker_count}
+use Rattle.unix_names.specs.declared.limits.TheConstants.{PIDS_PER_NODE}
 
 -- what f makes of the numbers below n, in order
 abbrev pub firsts : {X : Type 0} → (ℕ → X) → ℕ → List X
@@ -69,7 +70,7 @@ start nodes workers j = record {
   node = record { 0 = j % nodes };
   script = workers + j;
   var = workers + j;
-  pid = record { 0 = 1000000 * (j % nodes) + 2 + j / nodes };
+  pid = record { 0 = PIDS_PER_NODE * (j % nodes) + 2 + j / nodes };
   uid = 0;
   joined = None;
 }

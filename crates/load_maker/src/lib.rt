@@ -2,8 +2,10 @@
 #![tactic(auto)]
 
 mod draws;
+mod limits;
 mod made;
 
+pub use limits::LARGEST_LOAD;
 pub use made::make;
 
 #[cfg(test)]

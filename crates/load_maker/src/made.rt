@@ -4,6 +4,8 @@ ghost use Rattle.std.specs.Fmt.{decimal};
 ghost use Rattle.std.specs.List.{flat_map};
 ghost use Rattle.std.specs.String.{string_bytes};
 ghost use Rattle.load_maker.specs.Made.{child_name, worker_name, leader_name, start_name, line_of, statement_of, statement_row, after_statement, worker_head, worker_tail, worker_rows, after_workers, all_workers, fork_row, fork_rows, after_children, wait_rows, child_count as children_of, leader_head, leader_rows, after_leaders, all_leaders, start_row, all_starts, leader_count as leaders_of, follower_count as followers_of, worker_count as workers_of, made};
+ghost use Rattle.load_maker.specs.declared.limits.TheConstants.{LARGEST_LOAD};
+ghost use Rattle.unix_calls.specs.declared.limits.TheConstants.{MOST_NODES, MOST_STARTS};
 
 use crate::draws::Draws;
 use std::alloc::{AllocError, Global};
@@ -16,9 +18,9 @@ const MOST: u32 = 8;
 /// The same arguments give the same file.
 pub fn make(alloc: Global, seed: u32, nodes: u32, size: u32) -> Result<Vec<u8>, NoMemory>
     requires some_node { 1 ≤ nodes }
-    requires nodes { nodes ≤ 64 }
+    requires nodes { nodes ≤ MOST_NODES }
     requires some { 1 ≤ size }
-    requires size { size ≤ 200 }
+    requires size { size ≤ LARGEST_LOAD }
     ensures { IfOk result (λ bytes. bytes.items ≡ made seed nodes size) }
 {
     let leaders = (size + 8) / 9;
@@ -126,7 +128,7 @@ fn put_leaders(
     nodes: u32,
 ) -> Result<(), AllocError>
     requires some_node { 1 ≤ nodes }
-    requires few { leaders ≤ 64 }
+    requires few { leaders ≤ MOST_STARTS }
     ensures text { OnOk result (string_bytes text.new
         ≡ string_bytes text.old ++ flat_map line_of (all_leaders (min followers 8) nodes followers leaders draws.old.state)) }
     ensures state { OnOk result (draws.new.state ≡ after_leaders followers leaders draws.old.state) }

@@ -14,7 +14,8 @@ use Rattle.script_reader.specs.declared.names.Names.{Names}
 use Rattle.script_reader.specs.declared.places.Place.{Place}
 use Rattle.script_words.specs.Words.{word_at}
 use Rattle.script_reader.specs.Lines.{read_line, place_after}
-use Rattle.script_reader.specs.Files.{begins_with, words_behind, gather, Told, first_place, tells, place_behind, body, scripts_of, judged, end_kind, silent_kind, ended_world, whole_world, fault_at, told_part, read_part}
+use Rattle.script_words.specs.Kinds.{fault_at}
+use Rattle.script_reader.specs.Files.{begins_with, words_behind, gather, Told, first_place, tells, place_behind, body, scripts_of, judged, end_kind, silent_kind, ended_world, whole_world, told_part, read_part}
 use Rattle.script_laws.specs.Worlds.{ReadIsValid}
 use Rattle.script_laws.proofs.Statements.{AreVariables, IsRead}
 use Rattle.script_laws.proofs.Tables.{AreBelow, variables_listed, scripts_below}

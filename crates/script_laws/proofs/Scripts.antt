@@ -42,11 +42,8 @@ pub scripts_are : (t : Told) (rest : List Told) (b : Bool) → begins_with (code
 unfolding scripts_of
 scripts_are t rest b e = rw e refl
 
-below_256 : (n : ℕ) → n ≤ MOST_STATEMENTS → (n ≡ MOST_STATEMENTS → ⊥) → n < MOST_STATEMENTS
-below_256 n le ne = omega arith
-
-below_64 : (n : ℕ) → n ≤ 64 → (n ≡ 64 → ⊥) → n < 64
-below_64 n le ne = omega arith
+below : (n most : ℕ) → n ≤ most → (n ≡ most → ⊥) → n < most
+below n most le ne = omega arith
 
 -- ---- statements
 module _ (names : Names) (world : World) (variables : AreVariables names.variables world) where
@@ -84,7 +81,7 @@ module _ (names : Names) (world : World) (variables : AreVariables names.variabl
   counted place row i now later (ends k b w o l e n) few more = rw e (subst (λ p. p.statements ≤ MOST_STATEMENTS → length later + p.statements ≤ MOST_STATEMENTS) n more few)
   counted place row i now later (says v s k b w o c st e n) few more =
       let is : now.statements ≡ place.statements + 1 = ap (λ p. p.statements) n ∙ ap (λ x. cond x (place.statements + 1) place.statements) o in
-      let lt : place.statements < MOST_STATEMENTS = below_256 place.statements few (eqb-false _ _ c) in
+      let lt : place.statements < MOST_STATEMENTS = below place.statements MOST_STATEMENTS few (eqb-false _ _ c) in
       let h : length later + now.statements ≤ MOST_STATEMENTS = more (omega arith) in
       rw e (omega arith)
   counted place row i now later (starts s k b w c o st e n) few more = rw e (subst (λ p. p.statements ≤ MOST_STATEMENTS → length later + p.statements ≤ MOST_STATEMENTS) n more few)
@@ -136,7 +133,7 @@ module _ (names : Names) (world : World) (variables : AreVariables names.variabl
 pub fewer : (names : Names) (place : Place) (row : Row) (i : Item) (now : Place) → Step names place row i now → place.scripts ≤ MOST_SCRIPTS → (now.scripts ≤ MOST_SCRIPTS) × (now.scripts ≡ cond (is_beginning i) (place.scripts + 1) place.scripts)
 fewer names place row i now (silent k e n) few = rw (e, n) (few, refl)
 fewer names place row i now (opens m k b w nu l lo hi e n) few = rw (e, n) (few, refl)
-fewer names place row i now (begins k b w a o nm d l e n) few = let lt = below_64 place.scripts few (eqb-false _ _ a) in rw (e, n) (omega arith, refl)
+fewer names place row i now (begins k b w a o nm d l e n) few = let lt = below place.scripts MOST_SCRIPTS few (eqb-false _ _ a) in rw (e, n) (omega arith, refl)
 fewer names place row i now (ends k b w o l e n) few = rw (e, n) (few, refl)
 fewer names place row i now (says v s k b w o c st e n) few = rw (e, n) (few, refl)
 fewer names place row i now (starts s k b w c o st e n) few = rw (e, n) (few, refl)

@@ -8,8 +8,8 @@ use Rattle.unix_calls.specs.declared.World.{World}
 use Rattle.unix_calls.specs.declared.Script.{Script}
 use Rattle.unix_calls.specs.declared.Start.{Start}
 use Rattle.unix_calls.specs.declared.Statement.{Statement}
-use Rattle.unix_calls.specs.Valid.{IsStatement, IsStart, IsLittleWork, IsValid, start_pid}
-use Rattle.unix_calls.specs.Work.{works, total_work}
+use Rattle.unix_calls.specs.Valid.{IsStatement, IsStart, IsValid, start_pid}
+use Rattle.unix_calls.specs.Work.{works, total_work, is_little}
 use Rattle.script_reader.specs.declared.names.Names.{Names}
 use Rattle.script_reader.specs.declared.places.Place.{Place}
 use Rattle.script_reader.specs.declared.lines.Head.TheVariants as head
@@ -17,7 +17,7 @@ use Rattle.script_reader.specs.declared.lines.Item.TheVariants as item
 use Rattle.script_words.specs.Words.{Word, Row, word_at, is_skipped, ended}
 use Rattle.script_reader.specs.Lines.{is_numbered, script_line, end_line, statement_line, start_line, later_line, read_row, place_after, placed_after}
 use Rattle.script_reader.specs.Statements.{text_of}
-use Rattle.script_reader.specs.Files.{Told, place_behind, body, scripts_of, start_of, with_start, is_little, judged}
+use Rattle.script_reader.specs.Files.{Told, place_behind, body, scripts_of, start_of, with_start, judged}
 use Rattle.list_laws.proofs.Finding.{same_number}
 use Rattle.script_laws.specs.Grammar.{Naming, IsCalled, Spells, SpellsStart, Lines, ends, skips, starts, begins, says, closes}
 use Rattle.script_laws.proofs.Words.{skipped_script, begins_so, verb_script, script_word}
@@ -50,7 +50,7 @@ module _ (names : Names) (naming : Naming) (world : World) (has : HasNaming name
       row_read names place (codes "script" ∷ name ∷ []) (codes "script") head.Script refl (λ e. cc) script_head b
       ∙ rw (not_equal place.scripts MOST_SCRIPTS (below place.scripts lt), o, name_read name (has.scripts.name name place.scripts c), has.scripts.each name place.scripts c, same_number place.scripts) refl
     where
-      below : (n : ℕ) → n < 64 → n ≡ 64 → ⊥
+      below : (n : ℕ) → n < MOST_SCRIPTS → n ≡ MOST_SCRIPTS → ⊥
       below n lt e = omega arith
 
   end_said : (place : Place) → place.begun ≡ true → place.is_open ≡ true → read_row names place (codes "end" ∷ []) ≡ Ok item.ScriptEnds
@@ -73,7 +73,7 @@ module _ (names : Names) (naming : Naming) (world : World) (has : HasNaming name
       row_read names place row (codes "start") head.Start (ap (λ (r : Row). word_at r 0) h.is) (λ e. cc) start_head b
       ∙ rw (start_read names naming has world.starts known place row s h e (subst (λ m. s.node.0 < m) (sym n) v.node) (subst (λ m. IfSome s.joined (λ j. j < m)) c v.joined), not_equal place.starts MOST_STARTS (below place.starts lt), o) refl
     where
-      below : (n : ℕ) → n < 64 → n ≡ 64 → ⊥
+      below : (n : ℕ) → n < MOST_STARTS → n ≡ MOST_STARTS → ⊥
       below n lt e = omega arith
 
   -- a start is what its line gives, with its pid
@@ -86,8 +86,8 @@ module _ (names : Names) (naming : Naming) (world : World) (has : HasNaming name
   at_length (y ∷ xs) x ys = at_length xs x ys
 
   -- ---- all lines
-  number_less : {X : Type 0} (xs : List X) (k : ℕ) (x : X) → length xs ≤ 64 → slice_get xs k ≡ Some x → k < 64
-  number_less xs k x few e = let lt : k < length xs = slice_get_within xs k x e in omega arith
+  number_less : {X : Type 0} (most : ℕ) (xs : List X) (k : ℕ) (x : X) → length xs ≤ most → slice_get xs k ≡ Some x → k < most
+  number_less most xs k x few e = let lt : k < length xs = slice_get_within xs k x e in omega arith
 
   start_at : (later earlier : List Start) (s : Start) → earlier ++ s ∷ later ≡ world.starts → (slice_get world.starts (length earlier) ≡ Some s) × IsStart world earlier s
   start_at later earlier s e =
@@ -104,7 +104,7 @@ module _ (names : Names) (naming : Naming) (world : World) (has : HasNaming name
   start_case words scs later rows s row h ih place earlier st =
       let a = start_at later earlier s st.all in
       let there : slice_get world.starts place.starts ≡ Some s = subst (λ k. slice_get world.starts k ≡ Some s) st.count a.0 in
-      let lt = number_less world.starts place.starts s valid.limits.starts there in
+      let lt = number_less MOST_STARTS world.starts place.starts s valid.limits.starts there in
       let r = start_said place row s earlier st.begun st.is_open st.nodes lt st.count h there a.1 in
       started place earlier st a.1 r
     where
@@ -121,7 +121,7 @@ module _ (names : Names) (naming : Naming) (world : World) (has : HasNaming name
           let p = row_place place row (codes "start") head.Start (item.Starts (line_of names naming has world.starts known place s)) first (λ e. cc) start_head in
           let is : with_start earlier (line_of names naming has world.starts known place s) ≡ earlier ++ s ∷ [] = ap (λ (x : Start). earlier ++ x ∷ []) (start_is place earlier s v) in
           let all : (earlier ++ s ∷ []) ++ later ≡ world.starts = whole earlier st.all in
-          let little : is_little (total_work (works world.scripts) (earlier ++ s ∷ [])) ≡ true = little_first (works world.scripts) (earlier ++ s ∷ []) later (subst (λ (xs : List Start). IsLittleWork (total_work (works world.scripts) xs)) (sym all) valid.work) in
+          let little : is_little (total_work (works world.scripts) (earlier ++ s ∷ [])) ≡ true = little_first (works world.scripts) (earlier ++ s ∷ []) later (subst (λ (xs : List Start). is_little (total_work (works world.scripts) xs) ≡ true) (sym all) valid.work) in
           let m : Sense (placed_after place place.nodes head.Start) rows None scs (earlier ++ s ∷ []) = ih (placed_after place place.nodes head.Start) (earlier ++ s ∷ []) (record {
             begun = refl;
             nodes = st.nodes;
@@ -145,7 +145,7 @@ module _ (names : Names) (naming : Naming) (world : World) (has : HasNaming name
       let c : IsCalled naming.scripts name place.scripts = subst (λ k. IsCalled naming.scripts name k) zero (st.names 0 name refl) in
       let e : slice_get world.scripts place.scripts ≡ Some script = subst (λ k. slice_get world.scripts k ≡ Some script) zero (st.each 0 script refl) in
       let v = valid.scripts place.scripts script e in
-      let r = script_said place name st.begun st.is_open c (number_less world.scripts place.scripts script valid.limits.scripts e) in
+      let r = script_said place name st.begun st.is_open c (number_less MOST_SCRIPTS world.scripts place.scripts script valid.limits.scripts e) in
       let p = row_place place (codes "script" ∷ name ∷ []) (codes "script") head.Script item.ScriptBegins refl (λ e. cc) script_head in
       let next : (j : ℕ) → place.scripts + suc j ≡ place.scripts + 1 + j = λ j. omega arith in
       let back : place.scripts ≡ place.scripts + 1 - 1 = omega arith in

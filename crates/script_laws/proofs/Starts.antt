@@ -8,8 +8,8 @@ use Rattle.std.proofs.lemmas.Option.{slice_get-get_or}
 use Rattle.unix_calls.specs.declared.World.{World}
 use Rattle.unix_calls.specs.declared.Start.{Start}
 use Rattle.unix_calls.specs.declared.Work.{Work}
-use Rattle.unix_calls.specs.Valid.{EachAt, IsStart, IsLittleWork}
-use Rattle.unix_calls.specs.Work.{total_work}
+use Rattle.unix_calls.specs.Valid.{EachAt, IsStart}
+use Rattle.unix_calls.specs.Work.{total_work, is_little}
 use Rattle.script_words.specs.declared.faults.Kind.{Kind}
 use Rattle.script_words.specs.declared.faults.Kind.TheVariants.{UnknownWord, UnknownScript, DoubleName}
 use Rattle.script_reader.specs.declared.names.Names.{Names}
@@ -20,7 +20,7 @@ use Rattle.script_words.specs.Words.{Word, Row, found, is_same, word_at, name, n
 use Rattle.script_reader.specs.Names.{Table, number_in}
 use Rattle.script_reader.specs.Statements.{script}
 use Rattle.script_reader.specs.Lines.{is_numbered, start_variable, user, earlier_start, joined, place_after}
-use Rattle.script_reader.specs.Files.{Told, place_behind, start_of, with_start, is_little, judged}
+use Rattle.script_reader.specs.Files.{Told, place_behind, start_of, with_start, judged}
 use Rattle.script_laws.proofs.Results.{Gives, next, choice, gives, fails, ended_here, anything, next_ok, then_ok, found_ok}
 use Rattle.script_laws.proofs.Statements.{IsSmall, number_fits, node_fits}
 use Rattle.script_laws.proofs.Tables.{AreBelow, IsListed}
@@ -111,7 +111,7 @@ module _ (names : Names) (world : World) (works : List Work) (variables : IsList
     pub each : EachAt (λ k. IsStart world (take k earlier)) earlier
     pub named : EachAt IsNamed earlier
     pub users : All (λ s. IsSmall s.uid) earlier
-    pub work : IsLittleWork (total_work works earlier)
+    pub work : is_little (total_work works earlier) ≡ true
 
   own : (earlier : List Start) (place : Place) (word : Word) (n : ℕ) → AreStarted earlier place → number_in names.starts word ≡ Some place.starts → number_in names.variables word ≡ Some n → All (λ other. other.var ≢ n) earlier
   own earlier place word n a s v = λ k d lt. λ e.
@@ -137,9 +137,6 @@ module _ (names : Names) (world : World) (works : List Work) (variables : IsList
         joined = subst (λ m. IfSome s.joined (λ j. j < m)) (sym a.count) ((joined_fits names place l.count row).fact s.joined l.joined);
       }
 
-  little : (w : Work) → is_little w ≡ true → IsLittleWork w
-  little w e = let p = and_parts (nat_le w.processes MOST_PROCESSES) (nat_le w.statements MOST_WORK) e in (leb-true _ _ p.0, leb-true _ _ p.1)
-
   one_more : (earlier : List Start) (place : Place) (row : Row) (s : StartLine) (now : Place) → AreStarted earlier place → place.nodes ≡ world.nodes → IsStartLine names place row s → (place.starts == MOST_STARTS) ≡ false → now.starts ≡ place.starts + 1
       → is_little (total_work works (with_start earlier s)) ≡ true → AreStarted (with_start earlier s) now
   unfolding start_of
@@ -157,7 +154,7 @@ module _ (names : Names) (world : World) (works : List Work) (variables : IsList
           | inr o ↦ record { word = word_at row 3; number = v.0 ∙ ap (λ (m : ℕ). Some m) (sym (o.0 ∙ a.count)); var = v.1 ∙ ap (λ (z : Start). Some z.var) o.1 }
         ];
         users = All-push (λ x. IsSmall x.uid) earlier (start_of earlier s) a.users ((user_fits row).fact (s.uid, l.count) l.uid);
-        work = little (total_work works (with_start earlier s)) e;
+        work = e;
       }
     where
       fits : (place.starts ≡ MOST_STARTS → ⊥) → place.starts ≤ MOST_STARTS → now.starts ≤ MOST_STARTS

@@ -1,8 +1,8 @@
 -- lines of the grammar mean what they spell
-use Rattle.std.proofs.Common.{◌≡◌, ◌++◌, ℕ, ◌+◌, ◌-◌, ◌≤◌, true, false, cond, List, [], ◌∷◌, length, refl, ap, ◌∙◌, subst, arith, Option, Some, None, Ok, All}
-use Rattle.std.specs.Prelude.{codes, slice_get, map, fold, is_some}
+use Rattle.std.proofs.Common.{◌≡◌, ◌++◌, ℕ, ◌+◌, ◌-◌, ◌<◌, ◌≤◌, true, false, cond, List, [], ◌∷◌, length, refl, sym, ap, ◌∙◌, subst, arith, Option, Some, None, Ok, All}
+use Rattle.std.specs.Prelude.{codes, slice_get, map, fold, is_some, nat_le, min}
 use Rattle.std.specs.Str.{is_utf8}
-use Rattle.std.proofs.lemmas.Bool.{le-leb}
+use Rattle.std.proofs.lemmas.Bool.{le-leb, leb-true, and_parts}
 use Rattle.std.proofs.lemmas.List.Elements.{All-head, All-tail}
 use Rattle.byte_ends.specs.Text.{words}
 use Rattle.unix_calls.specs.declared.World.{World}
@@ -10,19 +10,19 @@ use Rattle.unix_calls.specs.declared.Script.{Script}
 use Rattle.unix_calls.specs.declared.Start.{Start}
 use Rattle.unix_calls.specs.declared.Work.{Work}
 use Rattle.unix_calls.specs.declared.Statement.{Statement}
-use Rattle.unix_calls.specs.Valid.{IsStatement, IsLittleWork}
-use Rattle.unix_calls.specs.Work.{work, together, work_of, total_work}
+use Rattle.unix_calls.specs.Valid.{IsStatement}
+use Rattle.unix_calls.specs.Work.{work, together, work_of, total_work, is_little}
 use Rattle.script_reader.specs.declared.names.Names.{Names}
 use Rattle.script_reader.specs.declared.places.Place.{Place}
 use Rattle.script_reader.specs.declared.lines.Item.{Item}
 use Rattle.script_reader.specs.declared.lines.Item.TheVariants as item
 use Rattle.script_words.specs.Words.{Word, Row}
 use Rattle.script_reader.specs.Lines.{read_row, read_line, place_after}
-use Rattle.script_reader.specs.Files.{begins_with, Told, tells, place_behind, said, with_said, body, scripts_of, is_little, judged}
+use Rattle.script_reader.specs.Files.{begins_with, Told, tells, place_behind, said, with_said, body, scripts_of, judged}
 use Rattle.script_laws.specs.Grammar.{Naming, IsCalled}
 use Rattle.script_laws.proofs.Walks.{starts_now, IsLittle}
 use Rattle.script_laws.proofs.Scripts.{is_beginning, body_is, scripts_are}
-use Rattle.unix_calls.specs.declared.limits.TheConstants.{MOST_STATEMENTS, MOST_PROCESSES, MOST_WORK}
+use Rattle.unix_calls.specs.declared.limits.TheConstants.{MOST_STATEMENTS, MOST_PROCESSES, MOST_WORK, WORK_STOP}
 
 -- ---- rows in the place of lines
 abbrev pub row_tells : Names → Place → List Row → List Told
@@ -79,17 +79,22 @@ fold_together : (ws : List Work) (w : Work) (xs ys : List Start) → fold (λ to
 fold_together ws w [] ys = refl
 fold_together ws w (x ∷ xs) ys = fold_together ws (together w (work_of ws x.script)) xs ys
 
-less_before : (a b : Work) → IsLittleWork (together a b) → IsLittleWork a
-less_before a b l = (omega (arith, l.0), omega (arith, l.1))
+little_before : (a b : Work) → is_little (together a b) ≡ true → is_little a ≡ true
+little_before a b l =
+    let p = and_parts (nat_le (together a b).processes MOST_PROCESSES) (nat_le (together a b).statements MOST_WORK) l in
+    let processes = leb-true (together a b).processes MOST_PROCESSES p.0 in
+    let statements = leb-true (together a b).statements MOST_WORK p.1 in
+    rw (le-leb a.processes MOST_PROCESSES (less a.processes b.processes WORK_STOP MOST_PROCESSES (omega arith) processes), le-leb a.statements MOST_WORK (less a.statements b.statements WORK_STOP MOST_WORK (omega arith) statements)) refl
+  where
+    less : (n m stop most : ℕ) → most < stop → min (n + m) stop ≤ most → n ≤ most
+    less n m stop most lt le = omega (arith, lt, le)
 
-less_at_first : (ws : List Work) (w : Work) (ys : List Start) → IsLittleWork (fold (λ total start. together total (work_of ws start.script)) w ys) → IsLittleWork w
-less_at_first ws w [] l = l
-less_at_first ws w (y ∷ ys) l = less_before w (work_of ws y.script) (less_at_first ws (together w (work_of ws y.script)) ys l)
+little_at_first : (ws : List Work) (w : Work) (ys : List Start) → is_little (fold (λ total start. together total (work_of ws start.script)) w ys) ≡ true → is_little w ≡ true
+little_at_first ws w [] l = l
+little_at_first ws w (y ∷ ys) l = little_before w (work_of ws y.script) (little_at_first ws (together w (work_of ws y.script)) ys l)
 
-pub little_first : (ws : List Work) (xs ys : List Start) → IsLittleWork (total_work ws (xs ++ ys)) → is_little (total_work ws xs) ≡ true
-little_first ws xs ys l =
-    let m = less_at_first ws (total_work ws xs) ys (subst IsLittleWork (fold_together ws (work 0 0) xs ys) l) in
-    rw (le-leb (total_work ws xs).processes MOST_PROCESSES m.0, le-leb (total_work ws xs).statements MOST_WORK m.1) refl
+pub little_first : (ws : List Work) (xs ys : List Start) → is_little (total_work ws (xs ++ ys)) ≡ true → is_little (total_work ws xs) ≡ true
+little_first ws xs ys l = little_at_first ws (total_work ws xs) ys (ap is_little (sym (fold_together ws (work 0 0) xs ys)) ∙ l)
 
 -- ---- where lines stand
 -- the statements of the open script

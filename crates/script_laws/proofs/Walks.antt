@@ -4,7 +4,7 @@ use Rattle.std.specs.Str.{is_utf8}
 use Rattle.byte_ends.specs.Text.{words}
 use Rattle.unix_calls.specs.declared.Start.{Start}
 use Rattle.unix_calls.specs.declared.Work.{Work}
-use Rattle.unix_calls.specs.Work.{total_work}
+use Rattle.unix_calls.specs.Work.{total_work, is_little}
 use Rattle.script_words.specs.declared.faults.Kind.{Kind}
 use Rattle.script_words.specs.declared.faults.Kind.TheVariants.{NotUtf8, TooMuchWork}
 use Rattle.script_words.specs.declared.faults.Fault.{Fault}
@@ -14,7 +14,8 @@ use Rattle.script_reader.specs.declared.lines.Item.{Item}
 use Rattle.script_reader.specs.declared.lines.Item.TheVariants as item
 use Rattle.script_words.specs.Words.{Row}
 use Rattle.script_reader.specs.Lines.{read_row, read_line, place_after}
-use Rattle.script_reader.specs.Files.{Told, tells, place_behind, with_start, is_little, fault_at, judged}
+use Rattle.script_words.specs.Kinds.{fault_at}
+use Rattle.script_reader.specs.Files.{Told, tells, place_behind, with_start, judged}
 use Rattle.script_laws.proofs.Results.{then_ok}
 use Rattle.script_laws.proofs.Lines.{Step, silent, opens, begins, ends, says, starts, step}
 use Rattle.unix_calls.specs.declared.limits.TheConstants.{MOST_NODES}

@@ -7,7 +7,7 @@ use Rattle.unix_calls.specs.declared.Script.{Script}
 use Rattle.unix_calls.specs.declared.Start.{Start}
 use Rattle.unix_calls.specs.declared.Statement.{Statement}
 use Rattle.unix_calls.specs.declared.Work.{Work}
-use Rattle.unix_calls.specs.Work.{work, together, work_of, total_work}
+use Rattle.unix_calls.specs.Work.{work, together, work_of, total_work, is_little}
 use Rattle.script_reader.specs.declared.bodies.Bodies.{Bodies}
 use Rattle.script_words.specs.declared.faults.Fault.{Fault}
 use Rattle.script_words.specs.declared.faults.Kind.{Kind}
@@ -20,7 +20,8 @@ use Rattle.script_reader.specs.declared.lines.Item.TheVariants as item
 use Rattle.script_reader.specs.declared.lines.StartLine.{StartLine}
 use Rattle.script_words.specs.Words.{Row}
 use Rattle.script_reader.specs.Lines.{read_line, place_after}
-use Rattle.script_reader.specs.Files.{Told, begins_with, said, body, tells, place_behind, scripts_of, is_little, fault_at, start_of, with_start, judged}
+use Rattle.script_words.specs.Kinds.{fault_at}
+use Rattle.script_reader.specs.Files.{Told, begins_with, said, body, tells, place_behind, scripts_of, start_of, with_start, judged}
 use Rattle.script_reader.specs.Starts.{started, HasNode}
 use Rattle.script_reader.specs.Bodies.{scripts_with}
 use Rattle.unix_calls.specs.declared.limits.TheConstants.{MOST_NODES}
@@ -145,7 +146,7 @@ unfolding start_of
 total-with works starts s total e = rw e (sym (fold_push (λ t start. together t (work_of works start.script)) (work 0 0) starts (start_of starts s)))
 
 -- a start that was taken, unless that was refused
-pub start-taken : (r : Result (Unit {0}) ReadRefusal) (works : List Work) (starts next : List Start) (number : ℕ) (read : Result Item Kind) (s : StartLine) → started read ≡ Ok (Some s)
+pub start-taken : (r : Result (Unit {0}) (ReadRefusal Fault)) (works : List Work) (starts next : List Start) (number : ℕ) (read : Result Item Kind) (s : StartLine) → started read ≡ Ok (Some s)
     → OnOk r (next ≡ with_start starts s) → OnOk r (is_little (total_work works (with_start starts s)) ≡ true)
     → OnOk r ((row : Row) (rest : List Told) → judged works starts number ((row, read) ∷ rest) ≡ judged works next (number + 1) rest)
 start-taken (Ok x) works starts next number read s is list little = λ row rest. judged-start works starts number row rest read s is little ∙ rw list refl

@@ -9,7 +9,8 @@ use Rattle.script_words.specs.declared.faults.Fault.{Fault}
 use Rattle.script_words.specs.declared.faults.Kind.{Kind}
 use Rattle.script_reader.specs.declared.names.Names.{Names}
 use Rattle.script_reader.specs.declared.places.Place.{Place}
-use Rattle.script_reader.specs.Files.{first_place, gather, tells, place_behind, scripts_of, judged, fault_at, end_kind, silent_kind, ended_world, whole_world, told_part, read_part}
+use Rattle.script_words.specs.Kinds.{fault_at}
+use Rattle.script_reader.specs.Files.{first_place, gather, tells, place_behind, scripts_of, judged, end_kind, silent_kind, ended_world, whole_world, told_part, read_part}
 
 -- names, scripts and place as the lines give them
 pub record IsRead (lines : List (List ℕ)) (names : Names) (scripts : List Script) (place : Place) : Type 0 where

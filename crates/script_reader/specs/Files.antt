@@ -8,7 +8,7 @@ use Rattle.unix_calls.specs.declared.Statement.{Statement}
 use Rattle.unix_calls.specs.declared.Work.{Work}
 use Rattle.unix_calls.specs.declared.World.{World}
 use Rattle.unix_calls.specs.Valid.{start_pid}
-use Rattle.unix_calls.specs.Work.{works, total_work}
+use Rattle.unix_calls.specs.Work.{works, total_work, is_little}
 use Rattle.script_words.specs.declared.faults.Fault.{Fault}
 use Rattle.script_words.specs.declared.faults.Kind.{Kind}
 use Rattle.script_words.specs.declared.faults.Kind.TheVariants.{NotUtf8, NoClusterLine, UnknownWord, TooMuchWork, NoStart}
@@ -20,7 +20,7 @@ use Rattle.script_reader.specs.declared.lines.StartLine.{StartLine}
 use Rattle.script_words.specs.Words.{Word, Row, is_same, word_at}
 use Rattle.script_reader.specs.Names.{Table, noted}
 use Rattle.script_reader.specs.Lines.{read_line, place_after}
-use Rattle.unix_calls.specs.declared.limits.TheConstants.{MOST_PROCESSES, MOST_WORK}
+use Rattle.script_words.specs.Kinds.{fault_at}
 
 -- whether a line's first word is this one
 unfoldable pub begins_with : Word → Row → Bool
@@ -97,13 +97,6 @@ start_of earlier s = record {
   uid = s.uid;
   joined = s.joined;
 }
-
--- at most 1,024 processes and 4,096 statements
-abbrev pub is_little : Work → Bool
-is_little work = nat_le work.processes MOST_PROCESSES && nat_le work.statements MOST_WORK
-
-abbrev pub fault_at : ℕ → Kind → Fault
-fault_at line kind = record { line = line; kind = kind }
 
 -- earlier starts, and one more
 abbrev pub with_start : List Start → StartLine → List Start

@@ -11,12 +11,12 @@ use crate::gather::{gather, lines_of};
 use crate::lines::{place_after, read_line};
 use crate::names::Names;
 use crate::places::{FIRST_PLACE, Place};
-use crate::starts::{Starts, bad};
+use crate::starts::Starts;
 use byte_ends::take_words;
 use file_parts::Span;
-use script_words::{Kind, ReadRefusal, is_utf8};
-use std::alloc::Global;
-use unix_calls::{Script, Start, Work, World, script_work};
+use script_words::{Kind, ReadRefusal, bad, is_utf8};
+use std::alloc::{AllocError, Global};
+use unix_calls::{Script, Start, Work, World, fill_works};
 use unix_names::{NoMemory, Seq};
 
 /// The world that a world part means, or the least fault of it. Memory is linear in the part's length.
@@ -88,15 +88,12 @@ fn scripts_of<'a>(
 }
 
 // The work of each script.
-fn works_of(alloc: Global, scripts: &[Script]) -> Result<Vec<Work>, NoMemory>
+fn works_of(alloc: Global, scripts: &[Script]) -> Result<Vec<Work>, AllocError>
     ensures { IfOk result (λ v. v.items ≡ works scripts.now) }
 {
-    let mut works = Vec::new(alloc);
-    for script in scripts {
-        let work = script_work(&works, script.statements.as_slice());
-        works.push(work)?;
-    }
-    Ok(works)
+    let mut list = vec![in alloc; Work::NONE; scripts.len()]?;
+    fill_works(&mut list, scripts);
+    Ok(list)
 }
 
 // The starts of some lines, or the first fault of a line.

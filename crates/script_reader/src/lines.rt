@@ -7,15 +7,7 @@ use crate::names::{Names, Numbers};
 use crate::places::Place;
 use crate::statements::{Verb, script, statement_of, verb_named};
 use script_words::{Kind, ended, is_skipped, is_utf8, is_word, name, node, number, word_at};
-use unix_calls::Statement;
-
-const MOST_NODES: u32 = 64;
-
-const MOST_SCRIPTS: usize = 64;
-
-const MOST_STATEMENTS: usize = 256;
-
-const MOST_STARTS: usize = 64;
+use unix_calls::{MOST_NODES, MOST_SCRIPTS, MOST_STARTS, MOST_STATEMENTS, Statement};
 
 /// What a line begins with.
 #[derive(Clone, Copy, Debug, PartialEq, Eq)]

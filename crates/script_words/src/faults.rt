@@ -1,7 +1,7 @@
 // What can be wrong with a file.
 ghost use Rattle.std.specs.Prelude.{◌≡◌};
 ghost use Rattle.script_words.specs.Kinds.{kind_name, fault_at};
-ghost use Rattle.script_words.specs.declared.faults.Refusal.TheVariants.{NoMemory as OutOfMemory};
+ghost use Rattle.script_words.specs.declared.faults.ReadRefusal.TheVariants.{NoMemory as OutOfMemory};
 
 use std::alloc::{AllocError, AllocFailed};
 use std::fmt;
@@ -104,41 +104,38 @@ impl fmt::Display for Fault {
 
 /// Why a text was not read: what is wrong with it, or that memory ran out.
 #[derive(Clone, Copy, Debug, PartialEq, Eq)]
-pub enum Refusal<F> {
+pub enum ReadRefusal<F = Fault> {
     Bad(F),
     NoMemory,
 }
 
-/// Why a file was not read.
-pub type ReadRefusal = Refusal<Fault>;
-
 /// A file with a fault of this kind at this line.
 pub fn bad(line: u32, kind: Kind) -> ReadRefusal
-    ensures { result ≡ Refusal.Bad (fault_at line kind) }
+    ensures { result ≡ ReadRefusal.Bad (fault_at line kind) }
 {
-    Refusal::Bad(Fault { line, kind })
+    ReadRefusal::Bad(Fault { line, kind })
 }
 
-impl<F> From<AllocError> for Refusal<F> {
+impl<F> From<AllocError> for ReadRefusal<F> {
     ghost from_gives = { λ _ e. e ≡ OutOfMemory };
 
-    fn from(_e: AllocError) -> Refusal<F> {
-        Refusal::NoMemory
+    fn from(_e: AllocError) -> ReadRefusal<F> {
+        ReadRefusal::NoMemory
     }
 }
 
-impl<F> From<NoMemory> for Refusal<F> {
+impl<F> From<NoMemory> for ReadRefusal<F> {
     ghost from_gives = { λ _ e. e ≡ OutOfMemory };
 
-    fn from(_e: NoMemory) -> Refusal<F> {
-        Refusal::NoMemory
+    fn from(_e: NoMemory) -> ReadRefusal<F> {
+        ReadRefusal::NoMemory
     }
 }
 
-impl<F, T: Drop> From<AllocFailed<T>> for Refusal<F> {
+impl<F, T: Drop> From<AllocFailed<T>> for ReadRefusal<F> {
     ghost from_gives = { λ _ e. e ≡ OutOfMemory };
 
-    fn from(_e: AllocFailed<T>) -> Refusal<F> {
-        Refusal::NoMemory
+    fn from(_e: AllocFailed<T>) -> ReadRefusal<F> {
+        ReadRefusal::NoMemory
     }
 }

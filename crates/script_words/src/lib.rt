@@ -9,7 +9,7 @@ mod tests;
 mod words;
 mod writing;
 
-pub use faults::{Fault, Kind, ReadRefusal, Refusal, bad};
+pub use faults::{Fault, Kind, ReadRefusal, bad};
 pub use limits::LONGEST_NAME;
 pub use table::{
     Verb, act_named, act_word, changes_in, errno_named, errno_word, verb_named, verb_word,

@@ -36,7 +36,7 @@ loop-line-preserved c =
     let place = c.loop-line.place in
     let line = (get_or lines i (record { ref_ptr = (0, 0); now = [] })).now in
     let told : c.read_line-read.result ≡ read_line names place line = c.read_line-read.ensures in
-    let row : map (λ w. w.now) c.deref-in-loop-line.result.now ≡ words line = ap (map (λ w. w.now)) c.deref-in-loop-line.ensures.value ∙ c.in_ok-take_words.ensures in
+    let row : map (λ w. w.now) c.deref-in-loop-line.result.now ≡ words line = ap (map (λ w. w.now)) c.deref-in-loop-line.ensures.value ∙ c.in_ok-take_words.ensures.words in
     let next : c.place_after-place.result ≡ place_after place (words line) (read_line names place line) = cc (c.place_after-place.ensures, row, told) in
     let rest = tells names (place_after place (words line) (read_line names place line)) (map (λ l. l.now) (drop (i + 1) lines)) in
     let fine = rw told at (c.in_ok-take_line.ensures.fine (words line) rest) in

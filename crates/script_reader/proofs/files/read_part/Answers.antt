@@ -2,7 +2,8 @@ use Rattle.std.proofs.Common.{◌≡◌, ◌+◌, ◌-◌, ℕ, [], Ok, Err, len
 use Rattle.std.proofs.lemmas.List.{length-map}
 use Rattle.std.proofs.lemmas.Result.{err_from_is_err_and}
 use Rattle.unix_calls.specs.Work.{works}
-use Rattle.script_reader.specs.Files.{first_place, tells, judged, fault_at, silent_kind}
+use Rattle.script_words.specs.Kinds.{fault_at}
+use Rattle.script_reader.specs.Files.{first_place, tells, judged, silent_kind}
 use Rattle.script_reader.proofs.Wholes.{IsRead, silent, whole-bad, whole-open, whole-fine}
 use Rattle.script_reader.proofs.files.read_part.Goals as goal
 

@@ -23,8 +23,8 @@ loop-line-preserved c =
     let place = c.loop-line.place in
     let line = (get_or lines i (record { ref_ptr = (0, 0); now = [] })).now in
     let told : c.read_line-read.result ≡ read_line names place line = c.read_line-read.ensures in
-    let row : map (λ w. w.now) c.deref-in-loop-line.result.now ≡ words line = ap (map (λ w. w.now)) c.deref-in-loop-line.ensures.value ∙ c.in_ok-take_words.ensures in
-    let row' : map (λ w. w.now) c.deref-in-loop-line-2.result.now ≡ words line = ap (map (λ w. w.now)) c.deref-in-loop-line-2.ensures.value ∙ c.in_ok-take_words.ensures in
+    let row : map (λ w. w.now) c.deref-in-loop-line.result.now ≡ words line = ap (map (λ w. w.now)) c.deref-in-loop-line.ensures.value ∙ c.in_ok-take_words.ensures.words in
+    let row' : map (λ w. w.now) c.deref-in-loop-line-2.result.now ≡ words line = ap (map (λ w. w.now)) c.deref-in-loop-line-2.ensures.value ∙ c.in_ok-take_words.ensures.words in
     let next : c.place_after-place.result ≡ place_after place (words line) (read_line names place line) = cc (c.place_after-place.ensures, row', told) in
     let taken : (rest : List Told) → scripts_with c.take_line.new.self rest ≡ scripts_with c.loop-line.bodies ((words line, read_line names place line) ∷ rest) = λ rest. c.in_ok-take_line.ensures rest ∙ rw (row, told) refl in
     record {

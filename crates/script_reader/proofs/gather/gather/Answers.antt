@@ -19,9 +19,9 @@ loop-line-preserved c =
     let i = c.loop-line.line-index in
     let lines = c.args.lines.now in
     let line = (get_or lines i (record { ref_ptr = (0, 0); now = [] })).now in
-    let row : map (λ w. w.now) c.deref.result.now ≡ words line = ap (map (λ w. w.now)) c.deref.ensures.value ∙ c.in_ok-take_words.ensures in
-    let row' : map (λ w. w.now) c.deref-in-loop-line.result.now ≡ words line = ap (map (λ w. w.now)) c.deref-in-loop-line.ensures.value ∙ c.in_ok-take_words.ensures in
-    let row'' : map (λ w. w.now) c.deref-in-loop-line-2.result.now ≡ words line = ap (map (λ w. w.now)) c.deref-in-loop-line-2.ensures.value ∙ c.in_ok-take_words.ensures in
+    let row : map (λ w. w.now) c.deref.result.now ≡ words line = ap (map (λ w. w.now)) c.deref.ensures.value ∙ c.in_ok-take_words.ensures.words in
+    let row' : map (λ w. w.now) c.deref-in-loop-line.result.now ≡ words line = ap (map (λ w. w.now)) c.deref-in-loop-line.ensures.value ∙ c.in_ok-take_words.ensures.words in
+    let row'' : map (λ w. w.now) c.deref-in-loop-line-2.result.now ≡ words line = ap (map (λ w. w.now)) c.deref-in-loop-line-2.ensures.value ∙ c.in_ok-take_words.ensures.words in
     let scripts = map (λ w. w.now) c.loop-line.scripts.items in
     let forks = map (λ w. w.now) c.loop-line.forks.items in
     let starts = map (λ w. w.now) c.loop-line.starts.items in

@@ -1,7 +1,8 @@
 use Rattle.std.proofs.Common.{◌≡◌, sym, ap, ◌∙◌}
-use Rattle.unix_calls.specs.Work.{together, total_work}
+use Rattle.unix_calls.specs.Work.{together, total_work, is_little}
 use Rattle.script_words.specs.declared.faults.Kind.TheVariants.{TooMuchWork}
-use Rattle.script_reader.specs.Files.{fault_at, with_start, is_little}
+use Rattle.script_words.specs.Kinds.{fault_at}
+use Rattle.script_reader.specs.Files.{with_start}
 use Rattle.script_reader.proofs.Steps.{total-with}
 use Rattle.script_reader.proofs.starts.Starts.add.Goals as goal
 

@@ -1,5 +1,5 @@
 use Rattle.std.proofs.Common.{◌≡◌, Ok, Err, Some, None, sym, ◌∙◌}
-use Rattle.script_reader.specs.Files.{fault_at}
+use Rattle.script_words.specs.Kinds.{fault_at}
 use Rattle.script_reader.specs.Starts.{started}
 use Rattle.script_reader.proofs.Steps.{judged-bad, judged-other, judged-crowded, start-taken}
 use Rattle.script_reader.proofs.starts.Starts.take_line.Goals as goal
