@@ -7,7 +7,8 @@ use Rattle.unix_names.specs.declared.Name.{Name}
 use Rattle.unix_names.specs.declared.Name.TheVariants.{V, G}
 use Rattle.record_bag.specs.declared.Bag.{Bag}
 use Rattle.record_bag.specs.Bags.{is_held}
-use Rattle.record_bag.specs.Names.{is_before, NoneAfter}
+use Rattle.unix_names.specs.Names.{is_before}
+use Rattle.record_bag.specs.Names.{NoneAfter}
 use Rattle.courier_core.specs.Wants.{is_name, lists, lesser, least_of, lacking, NoneBefore, IsLeast}
 
 pub is_name-same : (n : Name) → is_name n n ≡ true

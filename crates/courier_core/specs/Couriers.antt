@@ -3,7 +3,7 @@ use Rattle.std.specs.Prelude.{◌≡◌, Bool, true, List, ◌++◌, Option, Non
 use Rattle.std.specs.List.{list_any}
 use Rattle.unix_names.specs.declared.Name.{Name}
 use Rattle.record_bag.specs.Bags.{is_held, held_names}
-use Rattle.record_bag.specs.Names.{is_before}
+use Rattle.unix_names.specs.Names.{is_before}
 use Rattle.courier_core.specs.declared.courier.Courier.{Courier}
 use Rattle.courier_core.specs.Wants.{lists, lacking, least_of, all_added}
 

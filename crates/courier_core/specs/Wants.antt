@@ -5,7 +5,7 @@ use Rattle.unix_names.specs.declared.Name.{Name}
 use Rattle.unix_names.specs.declared.Name.TheVariants.{V, G}
 use Rattle.record_bag.specs.declared.Bag.{Bag}
 use Rattle.record_bag.specs.Bags.{is_held}
-use Rattle.record_bag.specs.Names.{is_before}
+use Rattle.unix_names.specs.Names.{is_before}
 
 -- whether two names are one
 abbrev pub is_name : Name → Name → Bool

@@ -1,11 +1,11 @@
 // Couriers, and what travels between nodes.
 ghost use Rattle.std.specs.Prelude.{◌≡◌, ◌<◌, true, length, is_none, Some, IsSome, OnOk, OnErr};
 
-use crate::wants::{add_needed_and_held, comes_before, least_lacking};
+use crate::wants::{add_needed_and_held, least_lacking};
 use proc_image::Image;
 use record_bag::{Bag, Held};
 use unix_calls::Job;
-use unix_names::{Name, NoMemory, Pid, Seq};
+use unix_names::{Name, NoMemory, Pid, Seq, is_before};
 
 /// A process's image on its way, with its job, the names that are to be gathered, and the records that were gathered.
 #[derive(Debug, Drop)]
@@ -54,7 +54,7 @@ impl Courier {
         ensures { result ≡ must_restart self.now name }
     {
         match self.bag.greatest() {
-            Some(greatest) => comes_before(name, greatest),
+            Some(greatest) => is_before(name, greatest),
             None => false,
         }
     }

@@ -2,25 +2,12 @@
 ghost use Rattle.std.specs.Prelude.{◌≡◌, ◌++◌, fold, map, take, length, IfOk, OnOk, OnErr};
 ghost use Rattle.unix_names.specs.declared.Name.TheVariants.{V, G};
 ghost use Rattle.ordered_table.specs.Entries.{pids_of};
-ghost use Rattle.record_bag.specs.Names.{is_before};
 ghost use Rattle.record_bag.specs.Bags.{held_names};
 ghost use Rattle.courier_core.specs.Wants.{is_name, lists, lesser, least_of, lacking, added, all_added};
 
 use ordered_table::Entry;
 use record_bag::Bag;
-use unix_names::{Name, NoMemory, Seq};
-
-/// Whether a name comes before another: every process before every group, then the lower id.
-pub fn comes_before(first: Name, second: Name) -> bool
-    ensures { result ≡ is_before first second }
-{
-    match (first, second) {
-        (Name::V(p), Name::V(q)) => p.0 < q.0,
-        (Name::V(_), Name::G(_)) => true,
-        (Name::G(_), Name::V(_)) => false,
-        (Name::G(g), Name::G(h)) => g.0 < h.0,
-    }
-}
+use unix_names::{Name, NoMemory, Seq, is_before};
 
 /// Whether two names are one.
 fn is_name(first: Name, second: Name) -> bool
@@ -38,7 +25,7 @@ fn lesser(least: Option<Name>, name: Name) -> Name
     ensures { result ≡ lesser least name }
 {
     match least {
-        Some(least) if !comes_before(name, least) => least,
+        Some(least) if !is_before(name, least) => least,
         _ => name,
     }
 }

@@ -2,3 +2,4 @@ pub mod MapLaws
 pub mod PlaceLaws
 pub mod RisingLaws
 pub mod SparseLaws
+pub mod AbsentLaws

@@ -2,13 +2,13 @@
 use Rattle.std.proofs.Common.{◌≡◌, ◌<◌, ◌≤◌, ◌+◌, ◌-◌, ℕ, zero, suc, Bool, true, false, nat_lt, List, [], ◌∷◌, ◌++◌, length, get_or, slice_get, map, sym, ap, ◌∙◌, subst, refl, arith, Some, None, Option}
 use Rattle.std.specs.List.{last_or}
 use Rattle.std.specs.Option.{option_map}
-use Rattle.std.proofs.lemmas.Bool.{le-ltb}
+use Rattle.std.proofs.lemmas.Bool.{le-ltb, lt-ltb}
 use Rattle.unix_names.specs.declared.Pid.{Pid}
 use Rattle.unix_names.specs.declared.Name.{Name}
 use Rattle.unix_names.specs.declared.Name.TheVariants.{V, G}
 use Rattle.ordered_table.specs.declared.Entry.{Entry}
 use Rattle.ordered_table.specs.Entries.{pids_of, AllAbove, AllUpTo, IsRising}
-use Rattle.record_bag.specs.Names.{is_before, AllAfter, NoneAfter, AreRising}
+use Rattle.record_bag.specs.Names.{AllAfter, NoneAfter, AreRising}
 
 -- the names of processes and then of groups
 abbrev pub names_of : {A B : Type 0} → List (Entry A) → List (Entry B) → List Name
@@ -91,16 +91,16 @@ name-past (e ∷ es) gs (suc k) le = name-past es gs k (omega arith)
 
 after-groups : {B : Type 0} (g : Pid) (gs : List (Entry B)) → AllAbove g gs → AllAfter (G g) (map G (pids_of gs))
 after-groups g [] a = tt
-after-groups g (e ∷ es) a = (a.0, after-groups g es a.1)
+after-groups g (e ∷ es) a = (lt-ltb g.0 e.pid.0 a.0, after-groups g es a.1)
 
 groups-after : {B : Type 0} (p : Pid) (gs : List (Entry B)) → AllAfter (V p) (map G (pids_of gs))
 groups-after p [] = tt
-groups-after p (e ∷ es) = (tt, groups-after p es)
+groups-after p (e ∷ es) = (refl, groups-after p es)
 
 -- the other names come after that of the least process
 pub AllAfter-vproc : {A B : Type 0} (p : Pid) (vs : List (Entry A)) (gs : List (Entry B)) → AllAbove p vs → AllAfter (V p) (names_of vs gs)
 AllAfter-vproc p [] gs a = groups-after p gs
-AllAfter-vproc p (e ∷ es) gs a = (a.0, AllAfter-vproc p es gs a.1)
+AllAfter-vproc p (e ∷ es) gs a = (lt-ltb p.0 e.pid.0 a.0, AllAfter-vproc p es gs a.1)
 
 -- without processes they come after that of the least group
 pub AllAfter-group : {A B : Type 0} (g : Pid) (vs : List (Entry A)) (gs : List (Entry B)) → vs ≡ [] → AllAbove g gs → AllAfter (G g) (names_of vs gs)

@@ -1,15 +1,7 @@
--- the order of names
-use Rattle.std.specs.Prelude.{◌≡◌, Bool, true, false, nat_lt, List, [], ◌∷◌}
+-- names in their order
+use Rattle.std.specs.Prelude.{◌≡◌, false, List, [], ◌∷◌}
 use Rattle.unix_names.specs.declared.Name.{Name}
-use Rattle.unix_names.specs.declared.Name.TheVariants.{V, G}
-use Rattle.unix_names.specs.Names.{IsBefore}
-
--- whether a name comes before another: every process before every group, then the lower id
-abbrev pub is_before : Name → Name → Bool
-is_before (V p) (V q) = nat_lt p.0 q.0
-is_before (V p) (G h) = true
-is_before (G g) (V q) = false
-is_before (G g) (G h) = nat_lt g.0 h.0
+use Rattle.unix_names.specs.Names.{is_before, IsBefore}
 
 -- each name comes after n
 abbrev pub AllAfter : Name → List Name → Type 0

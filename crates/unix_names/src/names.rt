@@ -1,6 +1,6 @@
 // Process ids, nodes and names.
-ghost use Rattle.std.specs.Prelude.{◌≡◌, ◌≤◌, ◌↔◌, IsTrue};
-ghost use Rattle.unix_names.specs.Names.{home, IsBefore};
+ghost use Rattle.std.specs.Prelude.{◌≡◌, ◌≤◌};
+ghost use Rattle.unix_names.specs.Names.{home, is_before};
 
 use crate::limits::{NO_PID, PIDS_PER_NODE};
 use std::alloc::{AllocError, AllocFailed};
@@ -61,7 +61,7 @@ pub fn home_of(name: Name, nodes: u32) -> NodeId
 
 /// Whether a name comes before another.
 pub fn is_before(first: Name, second: Name) -> bool
-    ensures { IsTrue result ↔ IsBefore first second }
+    ensures { result ≡ is_before first second }
 {
     first < second
 }
