@@ -6,7 +6,7 @@ ghost use Rattle.ordered_table.specs.Entries.{pids_of};
 ghost use Rattle.process_table.specs.Rows.{is_among};
 ghost use Rattle.kernel_rules.specs.MethodEnding.{is_at_risk, is_left};
 ghost use Rattle.solo_core.specs.Machine.{members_of, others, told_of_kill, told_of_kill_call, told_of_move, told_of_setpgid, told_of_setsid};
-ghost use Rattle.solo_core.specs.Commit.{others_in, told_first_of_call, told_first_of_event, told_first, is_end, risked};
+ghost use Rattle.solo_core.specs.MethodCommit.{others_in, told_first_of_call, told_first_of_event, told_first, is_end, risked};
 
 use crate::groups::Groups;
 use kernel_rules::groups_at_risk;
