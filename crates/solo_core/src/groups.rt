@@ -4,10 +4,9 @@ ghost use Rattle.unix_calls.specs.Calls.{HasNames, EntryHasNames, IsName};
 ghost use Rattle.solo_core.specs.Machine.{others, groups_without, moved, row_moved, groups_after, groups_after_call, groups_after_fork, groups_after_setpgid, groups_after_setsid};
 ghost use Rattle.solo_core.specs.Run.{first_groups};
 
-use process_table::{Row, find_named};
-
 use kernel_rules::wanted_group;
 use ordered_table::{Table, join, put_members, take_members};
+use process_table::{Row, find_named};
 use std::alloc::Global;
 use unix_calls::{Call, Entry, Reply};
 use unix_names::{NoMemory, Pid, Seq};

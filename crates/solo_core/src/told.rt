@@ -9,11 +9,9 @@ ghost use Rattle.solo_core.specs.Machine.{members_of, others, told_of_kill, told
 ghost use Rattle.solo_core.specs.MethodCommit.{others_in, told_first_of_call, told_first_of_event, told_first, is_end, risked};
 
 use crate::groups::Groups;
-use kernel_rules::groups_at_risk;
-use process_table::is_among;
 use kernel_model::process_of;
-use process_table::{Row, find_named, has_stopped, is_orphaned};
-use kernel_rules::wanted_group;
+use kernel_rules::{groups_at_risk, wanted_group};
+use process_table::{Row, find_named, has_stopped, is_among, is_orphaned};
 use std::alloc::Global;
 use unix_calls::{Call, Entry, Event, Reply, Target, target_of};
 use unix_names::{NoMemory, Pid, Seq};
