@@ -94,7 +94,12 @@ impl Judge {
     }
 
     /// Judges the next entry, and takes it in where it breaks no rule. An illegal entry ends the judgement: the judge is of no use afterwards.
-    fn step(&mut self, alloc: Global, world: &World, entry: &Entry) -> Result<Option<Breach>, NoMemory>
+    fn step(
+        &mut self,
+        alloc: Global,
+        world: &World,
+        entry: &Entry,
+    ) -> Result<Option<Breach>, NoMemory>
         requires valid { IsValid world.now }
         requires names { EntryHasNames entry.now }
         requires kept { IsKept world.now self.old.images }

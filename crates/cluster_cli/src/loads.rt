@@ -6,11 +6,11 @@ ghost use Rattle.cluster_cli.specs.Commands.{IsWithin};
 ghost use Rattle.cluster_cli.specs.Load.{is_fork, fork_count, load_turns, counts_text, load_text, Loads};
 ghost use Rattle.cluster_cli.specs.Replay.{is_empty};
 
-use solo_core::run;
 use file_parts::Span;
 use load_maker::make;
 use script_reader::read_file;
 use script_words::ReadRefusal;
+use solo_core::run;
 use std::alloc::{AllocError, Global};
 use unix_calls::{MOST_TURNS, Call, Entry, Reply, Turn, World};
 use unix_names::{NoMemory, Seq};

@@ -4,9 +4,8 @@ ghost use Rattle.unix_calls.specs.Calls.{HasNames};
 ghost use Rattle.kernel_rules.specs.Wait.{is_ready_match};
 ghost use Rattle.kernel_choice.specs.Choice.{group_reply, session_reply, child_reply, answer_of, reply_of};
 
-use process_table::{ProcessTable, Row, find_named};
-
 use kernel_rules::{has_ready_match, is_ready_match, refusal, report_of};
+use process_table::{ProcessTable, Row, find_named};
 use unix_calls::{Call, Reply, Selector, selector_of};
 use unix_names::{Errno, Pid};
 

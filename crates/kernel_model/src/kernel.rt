@@ -6,8 +6,8 @@ ghost use Rattle.process_table.specs.Rows.{row_of};
 ghost use Rattle.kernel_model.specs.Legal.{boot, booted, joined_row, first_row, row_with};
 
 use crate::verdict::{Rule, Verdict};
-use process_table::{ProcessTable, Row};
 use kernel_rules::{allows, call, can_call, happen, look_up, may_happen};
+use process_table::{ProcessTable, Row};
 use signal_state::Sig;
 use std::alloc::Global;
 use std::marker::Model;

@@ -29,7 +29,7 @@ use Rattle.solo_core.specs.declared.machine.Machine.{Machine}
 use Rattle.image_turns.specs.Turns.{woken_image, in_phase, advanced, image_after, child_pid, born, born_as}
 use Rattle.solo_core.specs.Machine.{roused, nudged, told, chosen, placed, placed_image, with_image, decided, serial_after, committed}
 use Rattle.image_turns.specs.Ready.{first_movable, is_stopped_phase}
-use Rattle.solo_core.specs.Commit.{AllFit}
+use Rattle.solo_core.specs.MethodCommit.{AllFit}
 use Rattle.solo_core.specs.Run.{Played, first_machine, played_by, played, gone_from, gone, pushed_from, pushed, gone_times, turned}
 use Rattle.unix_calls.specs.Turns.{turns_in}
 

@@ -12,7 +12,7 @@ use Rattle.kernel_rules.specs.MethodEnding.{is_left}
 use Rattle.solo_core.specs.declared.machine.Machine.{Machine}
 use Rattle.solo_core.specs.Machine.{Groups, groups_after, told as told_of, stepped, decided, placed, placed_image, with_image, nudged, committed}
 use Rattle.image_turns.specs.Turns.{image_after, born}
-use Rattle.solo_core.specs.Commit.{others_in, told_first, risked}
+use Rattle.solo_core.specs.MethodCommit.{others_in, told_first, risked}
 use Rattle.solo_core.proofs.ToldLaws.{told_parts}
 
 -- where an image goes changes neither the table nor the groups

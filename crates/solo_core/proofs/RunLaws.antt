@@ -4,7 +4,7 @@ use Rattle.unix_calls.specs.declared.Turn.{Turn}
 use Rattle.unix_calls.specs.declared.World.{World}
 use Rattle.unix_calls.specs.Valid.{IsValid}
 use Rattle.solo_core.specs.declared.machine.Machine.{Machine}
-use Rattle.solo_core.specs.Commit.{AllFit}
+use Rattle.solo_core.specs.MethodCommit.{AllFit}
 use Rattle.solo_core.specs.Run.{Played, first_machine, turned, run}
 use Rattle.unix_calls.specs.Turns.{turns_in, turns_total}
 use Rattle.solo_core.proofs.FitLaws.{turned-kept, kept_along, first_fits}

@@ -21,7 +21,7 @@ use Rattle.kernel_rules.specs.MethodEnding.{is_at_risk, is_left}
 use Rattle.kernel_model.specs.Step.{verdict, process_of, after_at}
 use Rattle.kernel_rules.proofs.EndLaws.{newly_same, newly_after}
 use Rattle.solo_core.specs.Machine.{Groups, groups_after, told, told_of_kill_call, told_of_setpgid, told_of_setsid, stepped, stepped_by}
-use Rattle.solo_core.specs.Commit.{others_in, is_end, told_first, risked}
+use Rattle.solo_core.specs.MethodCommit.{others_in, is_end, told_first, risked}
 
 -- ---- filters
 two_step : {X : Type 0} (q : X → Bool) (x : X) (both first : List X) (a b c : Bool) → q x ≡ b → (b && a) ≡ c → both ≡ filter q first → cond c (x ∷ both) both ≡ filter q (cond a (x ∷ first) first)

@@ -1,3 +1,3 @@
 pub mod Machine
 pub mod Run
-pub mod Commit
+pub mod MethodCommit

@@ -45,12 +45,12 @@ abbrev pub others : Pid → List Pid → List Pid
 others p pids = filter (λ q. not (is_same q p)) pids
 
 -- a process leaves a group
-abbrev pub left : Pid → Pid → Groups → Groups
-left g p groups = with_value groups g (others p (members_of groups g))
+abbrev pub groups_without : Pid → Pid → Groups → Groups
+groups_without g p groups = with_value groups g (others p (members_of groups g))
 
 -- a process goes to another group; one that it is in already it does not join again
 abbrev pub moved : Pid → Pid → Pid → Groups → Groups
-moved old new p groups = if is_same old new then groups else joined new p (left old p groups)
+moved old new p groups = if is_same old new then groups else joined new p (groups_without old p groups)
 
 -- the row goes to the group
 abbrev pub row_moved : Pid → Option Row → Groups → Groups

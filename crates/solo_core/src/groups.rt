@@ -1,13 +1,12 @@
 // The members of each group, in the order in which they last joined it.
 ghost use Rattle.std.specs.Prelude.{◌≡◌, IfOk, OnOk};
 ghost use Rattle.unix_calls.specs.Calls.{HasNames, EntryHasNames, IsName};
-ghost use Rattle.solo_core.specs.Machine.{others, left, moved, row_moved, groups_after, groups_after_call, groups_after_fork, groups_after_setpgid, groups_after_setsid};
+ghost use Rattle.solo_core.specs.Machine.{others, groups_without, moved, row_moved, groups_after, groups_after_call, groups_after_fork, groups_after_setpgid, groups_after_setsid};
 ghost use Rattle.solo_core.specs.Run.{first_groups};
-
-use process_table::{Row, find_named};
 
 use kernel_rules::wanted_group;
 use ordered_table::{Table, join, put_members, take_members};
+use process_table::{Row, find_named};
 use std::alloc::Global;
 use unix_calls::{Call, Entry, Reply};
 use unix_names::{NoMemory, Pid, Seq};
@@ -23,7 +22,7 @@ fn remove_member(members: &mut Seq<Pid>, pid: Pid)
 
 #[tactic(auto, using(ordered_table::proofs::MapLaws::with_value_again))]
 fn leave(alloc: Global, groups: &mut Groups, group: Pid, pid: Pid) -> Result<(), NoMemory>
-    ensures { OnOk result (groups.new ≡ left group pid groups.old) }
+    ensures { OnOk result (groups.new ≡ groups_without group pid groups.old) }
 {
     let mut members = take_members(alloc, groups, group)?;
     remove_member(&mut members, pid);

@@ -6,13 +6,12 @@ ghost use Rattle.proc_image.specs.Images.{IsFit};
 ghost use Rattle.solo_core.specs.Machine.{stepped, serial_after, decided, nudged, placed_image, with_image, told, committed};
 
 use crate::groups::{Groups, change_groups};
-use image_turns::{advance, born, woken};
-use image_turns::ReadyQueue;
 use crate::told::{add_all_members, keep_left, risked, told_first};
+use image_turns::{ReadyQueue, advance, born, woken};
 use kernel_model::Kernel;
-use process_table::Row;
 use ordered_table::{SparseTable, Table};
 use proc_image::Image;
+use process_table::Row;
 use std::alloc::Global;
 use unix_calls::{Call, Entry, Phase, Reply, World};
 use unix_names::{NoMemory, Pid, Seq};

@@ -2,7 +2,7 @@
 ghost use Rattle.std.specs.Prelude.{◌≡◌, ◌+◌, ◌<◌, ◌^◌, [], map, IfOk, OnOk};
 ghost use Rattle.unix_calls.specs.Valid.{IsValid};
 ghost use Rattle.proc_image.specs.Images.{IsFit, JobHasNames, start_image};
-ghost use Rattle.solo_core.specs.Commit.{AllFit};
+ghost use Rattle.solo_core.specs.MethodCommit.{AllFit};
 ghost use Rattle.solo_core.specs.Run.{first_machine, played, gone, pushed, gone_times, turned};
 ghost use Rattle.unix_calls.specs.Turns.{turns_in};
 

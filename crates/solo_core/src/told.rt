@@ -6,14 +6,12 @@ ghost use Rattle.ordered_table.specs.Entries.{pids_of};
 ghost use Rattle.process_table.specs.Rows.{is_among};
 ghost use Rattle.kernel_rules.specs.MethodEnding.{is_at_risk, is_left};
 ghost use Rattle.solo_core.specs.Machine.{members_of, others, told_of_kill, told_of_kill_call, told_of_move, told_of_setpgid, told_of_setsid};
-ghost use Rattle.solo_core.specs.Commit.{others_in, told_first_of_call, told_first_of_event, told_first, is_end, risked};
+ghost use Rattle.solo_core.specs.MethodCommit.{others_in, told_first_of_call, told_first_of_event, told_first, is_end, risked};
 
 use crate::groups::Groups;
-use kernel_rules::groups_at_risk;
-use process_table::is_among;
 use kernel_model::process_of;
-use process_table::{Row, find_named, has_stopped, is_orphaned};
-use kernel_rules::wanted_group;
+use kernel_rules::{groups_at_risk, wanted_group};
+use process_table::{Row, find_named, has_stopped, is_among, is_orphaned};
 use std::alloc::Global;
 use unix_calls::{Call, Entry, Event, Reply, Target, target_of};
 use unix_names::{NoMemory, Pid, Seq};

@@ -29,12 +29,13 @@ use Rattle.solo_core.specs.declared.machine.Machine.{Machine}
 use Rattle.solo_core.specs.Machine.{told, with_image, stepped, stepped_by, serial_after, decided, placed_image, committed}
 use Rattle.image_turns.specs.Turns.{born, phase_after, advanced, in_phase, image_after}
 use Rattle.image_turns.specs.Ready.{is_stopped_phase}
-use Rattle.solo_laws.specs.Stands.{queued_at, IsImageOf, IsOver, IsPlaced, AreGiven}
-use Rattle.solo_laws.proofs.Lives.{keeps_life}
-use Rattle.solo_laws.proofs.Middles.{at-append_same}
-use Rattle.solo_laws.proofs.Names.{HasChild, forks}
+use Rattle.solo_laws.specs.Stands.{queued_at, IsImageOf, IsPlaced, AreGiven}
+use Rattle.history_laws.specs.Living.{IsOver}
+use Rattle.history_laws.proofs.Lives.{keeps_life}
+use Rattle.list_laws.proofs.Middles.{at-append_same}
+use Rattle.history_laws.proofs.Names.{HasChild, forks}
 use Rattle.solo_laws.proofs.Chosen.{IsChosen, chosen_number}
-use Rattle.solo_laws.proofs.Progress.{IsNoForkOf, progress_kept, progress_child}
+use Rattle.history_laws.proofs.Progress.{IsNoForkOf, progress_kept, progress_child}
 use Rattle.solo_laws.proofs.Places.{HaveBut, AlsoOut, NoneOut, said_so, add_queued, placed_on, none_placed, told_have}
 use Rattle.solo_laws.proofs.Placed.{Leaves, placed_have, advanced_pid, own_process, own_given, own_leaves}
 

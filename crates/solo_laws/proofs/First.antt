@@ -27,8 +27,9 @@ use Rattle.kernel_laws.proofs.Starts.{start_number, valid_pids}
 use Rattle.kernel_laws.proofs.Boot.{boot_first, boot_sound}
 use Rattle.solo_core.specs.Run.{first_machine}
 use Rattle.unix_calls.specs.Calls.{IsEntry}
-use Rattle.solo_laws.specs.Stands.{IsOver, image_number, IsImageOf, IsPlaced, HaveImages, AreGiven}
-use Rattle.solo_laws.proofs.Middles.{at-append_other, at-append_same}
+use Rattle.history_laws.specs.Living.{IsOver}
+use Rattle.solo_laws.specs.Stands.{image_number, IsImageOf, IsPlaced, HaveImages, AreGiven}
+use Rattle.list_laws.proofs.Middles.{at-append_other, at-append_same}
 use Rattle.solo_laws.proofs.Places.{same_pid, placed_as}
 use Rattle.solo_laws.proofs.Played.{StandsBy}
 

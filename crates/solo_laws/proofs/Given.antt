@@ -28,7 +28,7 @@ use Rattle.kernel_laws.proofs.Others.{others_signalled}
 use Rattle.kernel_laws.proofs.Own.{own_signalled}
 use Rattle.solo_core.specs.Machine.{serial_after}
 use Rattle.solo_laws.specs.Stands.{AreGiven}
-use Rattle.solo_laws.proofs.Pending.{pending-generated_all, pending-own}
+use Rattle.history_laws.proofs.Pending.{pending-generated_all, pending-own}
 
 -- the numbers of a row
 pub record IsNumbered (serial : ℕ) (r : Row) : Type 0 where

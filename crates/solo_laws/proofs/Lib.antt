@@ -1,15 +1,8 @@
-pub mod Pending
 pub mod Given
-pub mod Lives
-pub mod Middles
 pub mod Places
-pub mod Names
 pub mod Chosen
-pub mod Progress
-pub mod Awake
 pub mod Placed
 pub mod Committed
-pub mod Histories
 pub mod Played
 pub mod Turns
 pub mod First

@@ -12,7 +12,7 @@ use Rattle.ordered_table.proofs.MapLaws.{put-same, put-other}
 use Rattle.list_laws.proofs.Finding.{same_number}
 use Rattle.process_table.specs.Rows.{is_same, is_among}
 use Rattle.kernel_laws.proofs.Rows.{pid_same}
-use Rattle.solo_core.specs.Machine.{Groups, members_of, others, joined, left, moved}
+use Rattle.solo_core.specs.Machine.{Groups, members_of, others, joined, groups_without, moved}
 
 -- ---- lists of pids
 pub among_filter : (test : Pid → Bool) (q : Pid) (pids : List Pid) → test q ≡ true → is_among pids q ≡ true → is_among (filter test pids) q ≡ true
@@ -60,10 +60,10 @@ joined_same g p q groups = ap (λ o. unwrap_or o []) (put-same groups g (members
 pub joined_other : (g h p : Pid) (groups : Groups) → (g.0 == h.0) ≡ false → members_of (joined g p groups) h ≡ members_of groups h
 joined_other g h p groups ne = ap (λ o. unwrap_or o []) (put-other groups g h (members_of groups g ++ p ∷ []) (λ e. cc (ne, ap (λ n. n == h.0) (sym e) ∙ same_number h.0)))
 
-pub left_same : (g p : Pid) (groups : Groups) → members_of (left g p groups) g ≡ others p (members_of groups g)
+pub left_same : (g p : Pid) (groups : Groups) → members_of (groups_without g p groups) g ≡ others p (members_of groups g)
 left_same g p groups = ap (λ o. unwrap_or o []) (put-same groups g (others p (members_of groups g)))
 
-pub left_other : (g h p : Pid) (groups : Groups) → (g.0 == h.0) ≡ false → members_of (left g p groups) h ≡ members_of groups h
+pub left_other : (g h p : Pid) (groups : Groups) → (g.0 == h.0) ≡ false → members_of (groups_without g p groups) h ≡ members_of groups h
 left_other g h p groups ne = ap (λ o. unwrap_or o []) (put-other groups g h (others p (members_of groups g)) (λ e. cc (ne, ap (λ n. n == h.0) (sym e) ∙ same_number h.0)))
 
 -- who was a member of a group is one when another, or itself, joins
@@ -81,27 +81,27 @@ pub joined_joins : (g p : Pid) (groups : Groups) → is_among (members_of (joine
 joined_joins g p groups = ap (λ l. is_among l p) (joined_same g p p groups) ∙ among_last (members_of groups g) p p (same_number p.0)
 
 -- another one stays a member when one leaves
-pub left_keeps : (g h p q : Pid) (groups : Groups) → (q.0 == p.0) ≡ false → is_among (members_of groups h) q ≡ true → is_among (members_of (left g p groups) h) q ≡ true
+pub left_keeps : (g h p q : Pid) (groups : Groups) → (q.0 == p.0) ≡ false → is_among (members_of groups h) q ≡ true → is_among (members_of (groups_without g p groups) h) q ≡ true
 left_keeps g h p q groups ne e = go (g.0 == h.0) refl
   where
-    go : (b : Bool) → (g.0 == h.0) ≡ b → is_among (members_of (left g p groups) h) q ≡ true
+    go : (b : Bool) → (g.0 == h.0) ≡ b → is_among (members_of (groups_without g p groups) h) q ≡ true
     go true is =
         let same = pid_same g h (eqb-true _ _ is) in
-        subst (λ k. is_among (members_of (left g p groups) k) q ≡ true) same
+        subst (λ k. is_among (members_of (groups_without g p groups) k) q ≡ true) same
         (ap (λ l. is_among l q) (left_same g p groups) ∙ among_others p q (members_of groups g) ne (subst (λ k. is_among (members_of groups k) q ≡ true) (sym same) e))
     go false is = ap (λ l. is_among l q) (left_other g h p groups is) ∙ e
 
 pub moved_keeps : (old new h p q : Pid) (groups : Groups) → (q.0 == p.0) ≡ false → is_among (members_of groups h) q ≡ true → is_among (members_of (moved old new p groups) h) q ≡ true
 moved_keeps old new h p q groups ne e = go (is_same old new)
   where
-    go : (b : Bool) → is_among (members_of (cond b groups (joined new p (left old p groups))) h) q ≡ true
+    go : (b : Bool) → is_among (members_of (cond b groups (joined new p (groups_without old p groups))) h) q ≡ true
     go true = e
-    go false = joined_keeps new h p q (left old p groups) (left_keeps old h p q groups ne e)
+    go false = joined_keeps new h p q (groups_without old p groups) (left_keeps old h p q groups ne e)
 
 -- who moves is a member of its new group
 pub moved_joins : (old new p : Pid) (groups : Groups) → is_among (members_of groups old) p ≡ true → is_among (members_of (moved old new p groups) new) p ≡ true
 moved_joins old new p groups e = go (old.0 == new.0) refl
   where
-    go : (b : Bool) → (old.0 == new.0) ≡ b → is_among (members_of (cond b groups (joined new p (left old p groups))) new) p ≡ true
+    go : (b : Bool) → (old.0 == new.0) ≡ b → is_among (members_of (cond b groups (joined new p (groups_without old p groups))) new) p ≡ true
     go true is = subst (λ k. is_among (members_of groups k) p ≡ true) (pid_same old new (eqb-true _ _ is)) e
-    go false is = joined_joins new p (left old p groups)
+    go false is = joined_joins new p (groups_without old p groups)

@@ -40,7 +40,7 @@ use Rattle.audit_core.specs.Finished.{StaysStopped, SleepsOn, last_call, later_c
 use Rattle.solo_laws.specs.Stands.{IsParkedPhase, IsImageOf, Stands}
 use Rattle.solo_laws.specs.Rests.{AreListed, Rests}
 use Rattle.solo_laws.proofs.Chosen.{IsJobOf, IsChosen, fresh_next, chosen_none}
-use Rattle.solo_laws.proofs.Progress.{IsNoForkOf, progress_own}
+use Rattle.history_laws.proofs.Progress.{IsNoForkOf, progress_own}
 use Rattle.solo_laws.proofs.Places.{parked_one}
 use Rattle.solo_laws.proofs.Played.{from_images, taken_have, taken_of, taken_room, taken_here, taken_chosen}
 use Rattle.solo_laws.proofs.Turns.{IsKeptByTurns}

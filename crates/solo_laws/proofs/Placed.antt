@@ -35,13 +35,14 @@ use Rattle.solo_core.specs.declared.machine.Machine.{Machine}
 use Rattle.image_turns.specs.Turns.{phase_after_call, phase_after, advanced, in_phase}
 use Rattle.solo_core.specs.Machine.{placed}
 use Rattle.image_turns.specs.Ready.{is_stopped_phase}
-use Rattle.solo_laws.specs.Stands.{HasPids, IsImageOf, IsOver, AreGiven}
-use Rattle.solo_laws.proofs.Lives.{own_life, end_over}
+use Rattle.solo_laws.specs.Stands.{HasPids, IsImageOf, AreGiven}
+use Rattle.history_laws.specs.Living.{IsOver}
+use Rattle.history_laws.proofs.Lives.{own_life, end_over}
 use Rattle.solo_laws.proofs.Places.{HaveBut, AlsoOut, add_queued, add_parked, add_nothing}
-use Rattle.solo_laws.proofs.Names.{moved_knows}
+use Rattle.history_laws.proofs.Names.{moved_knows}
 use Rattle.solo_laws.proofs.Chosen.{Asked, IsChosen, chosen_number}
-use Rattle.solo_laws.proofs.Progress.{IsNoForkOf, moved_by, progress_own}
-use Rattle.solo_laws.proofs.Awake.{is_stopped_by, stopped_after, living_after}
+use Rattle.history_laws.proofs.Progress.{IsNoForkOf, moved_by, progress_own}
+use Rattle.history_laws.proofs.Awake.{is_stopped_by, stopped_after, living_after}
 
 -- what a phase asks: that the process is over, or that its image is right in it
 abbrev pub Leaves : Phase → Type 0 → (Phase → Type 0) → Type 0

@@ -20,9 +20,10 @@ use Rattle.solo_core.specs.declared.machine.Machine.{Machine}
 use Rattle.image_turns.specs.Turns.{woken, woken_image}
 use Rattle.solo_core.specs.Machine.{roused, nudged}
 use Rattle.image_turns.specs.Ready.{is_stopped_phase}
-use Rattle.solo_laws.specs.Stands.{image_number, queued_at, IsQueuedPhase, IsParkedPhase, IsImageOf, IsOver, IsPlaced}
-use Rattle.solo_laws.proofs.Middles.{at-append_other, at-append_same, at-without, distinct-without, absent-without, at-middle}
-use Rattle.solo_laws.proofs.Lives.{KeepsLife}
+use Rattle.solo_laws.specs.Stands.{image_number, queued_at, IsQueuedPhase, IsParkedPhase, IsImageOf, IsPlaced}
+use Rattle.history_laws.specs.Living.{IsOver}
+use Rattle.list_laws.proofs.Middles.{at-append_other, at-append_same, at-without, distinct-without, absent-without, at-middle}
+use Rattle.history_laws.proofs.Lives.{KeepsLife}
 
 -- each process's image stands once, but those that are out
 pub record HaveBut (world : World) (running : Running) (rows : List Row) (serial : ℕ) (Out : Pid → Type 0) (m : Machine) : Type 0 where

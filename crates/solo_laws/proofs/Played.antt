@@ -30,10 +30,10 @@ use Rattle.solo_core.specs.Run.{with_entry, played_by, played}
 use Rattle.solo_laws.specs.Stands.{queued_at, IsImageOf, IsPlaced, HaveImages, AreGiven, Stands}
 use Rattle.solo_laws.proofs.Given.{given_kept}
 use Rattle.solo_laws.proofs.Places.{HaveBut, AlsoOut, NoneOut, queued_one, take_queued}
-use Rattle.solo_laws.proofs.Names.{next_names}
+use Rattle.history_laws.proofs.Names.{next_names}
 use Rattle.solo_laws.proofs.Chosen.{IsJobOf, IsChosen, fresh_next, chosen_is, chosen_none, chosen_order, chosen_number, chosen_whole}
 use Rattle.solo_laws.proofs.Committed.{committed_have, waiting_have}
-use Rattle.solo_laws.proofs.Histories.{table-push, legal-push}
+use Rattle.history_laws.proofs.Histories.{table-push, legal-push}
 
 -- a node stands, after at most so many entries
 pub record StandsBy (world : World) (count : ℕ) (p : Played) : Type 0 where

@@ -26,8 +26,8 @@ use Rattle.audit_core.specs.Finished.{StaysStopped, SleepsOn, last_call}
 use Rattle.solo_laws.specs.Stands.{Stands}
 use Rattle.solo_laws.specs.Rests.{AreListed}
 use Rattle.solo_laws.proofs.Chosen.{IsChosen, chosen_number}
-use Rattle.solo_laws.proofs.Histories.{table-push}
-use Rattle.solo_laws.proofs.Progress.{IsNoForkOf, progress_kept}
+use Rattle.history_laws.proofs.Histories.{table-push}
+use Rattle.history_laws.proofs.Progress.{IsNoForkOf, progress_kept}
 use Rattle.solo_laws.proofs.Listing.{listed_after}
 use Rattle.solo_laws.proofs.Waits.{group_stays, pid_stays, signals_stay, again_still}
 use Rattle.solo_laws.proofs.Resting.{waiting, last-push, last_other}

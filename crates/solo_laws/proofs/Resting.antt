@@ -38,7 +38,7 @@ use Rattle.kernel_choice.specs.Choice.{first_event, event_of, least_deliverable}
 use Rattle.kernel_choice.proofs.EventLaws.{none_chosen}
 use Rattle.solo_core.specs.Machine.{asked, happened_or, chosen}
 use Rattle.audit_core.specs.Finished.{StaysStopped, is_born, later_call, last_call}
-use Rattle.solo_laws.proofs.Progress.{IsNoForkOf}
+use Rattle.history_laws.proofs.Progress.{IsNoForkOf}
 
 -- ---- a kill that can't be taken isn't pending
 unkilled_by : (x : Signals) (b killed : Bool) → has x.pending Kill ≡ killed → IsKept x → has (cond b (cond killed (added 0 Kill) 0) (minus x.pending x.mask)) Kill ≡ false → killed ≡ false

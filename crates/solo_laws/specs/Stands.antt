@@ -18,6 +18,7 @@ use Rattle.process_table.specs.declared.Row.{Row}
 use Rattle.process_table.specs.Rows.{is_stopped, row_of}
 use Rattle.kernel_model.specs.Legal.{after_all, IsLegal}
 use Rattle.kernel_model.specs.Sound.{IsSound}
+use Rattle.history_laws.specs.Living.{IsOver}
 use Rattle.solo_core.specs.declared.machine.Machine.{Machine}
 use Rattle.solo_core.specs.declared.played.Played.{Played}
 use Rattle.image_turns.specs.Ready.{is_stopped_phase}
@@ -58,11 +59,6 @@ pub record IsImageOf (world : World) (row : Option Row) (far : Option Progress) 
   pub stopped : is_stopped_phase image.phase ≡ is_stopped process.life
   pub fits : IsFit world image
   pub pids : HasPids image
-
--- there is no row, or that of a process that has ended
-abbrev pub IsOver : Option Row → Type 0
-IsOver None = Unit {0}
-IsOver (Some r) = is_living r.life ≡ false
 
 -- a living process has one image, in the queue or parked, and no other has one
 abbrev pub IsPlaced : World → Option Row → Option Progress → Pid → Option Image → Option Image → Type 0

@@ -1,6 +1,6 @@
 use Rattle.std.proofs.Common.{◌≡◌, ◌++◌, take}
 use Rattle.std.specs.List.{flat_map}
-use Rattle.solo_core.specs.Commit.{others_in}
+use Rattle.solo_core.specs.MethodCommit.{others_in}
 use Rattle.solo_core.proofs.told.add_all_members.Given as goal
 
 abbrev pub invariant-loop-group : goal.invariant-loop-group

@@ -1,5 +1,5 @@
 use Rattle.std.proofs.Common.{◌≡◌, ◌+◌, ◌<◌, ◌^◌}
-use Rattle.solo_core.specs.Commit.{AllFit}
+use Rattle.solo_core.specs.MethodCommit.{AllFit}
 use Rattle.solo_core.specs.Run.{gone_times}
 use Rattle.solo_core.proofs.played.Played.go_times.Given as goal
 

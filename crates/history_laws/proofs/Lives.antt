@@ -44,7 +44,7 @@ use Rattle.kernel_laws.proofs.Ends.{ended_is}
 use Rattle.kernel_laws.proofs.Legal.{actor, after_is}
 use Rattle.kernel_laws.proofs.Others.{others_signalled, first, came_received_at}
 use Rattle.kernel_laws.proofs.Coming.{living_stay, only_forks_add}
-use Rattle.solo_laws.specs.Stands.{IsOver}
+use Rattle.history_laws.specs.Living.{IsOver}
 
 -- ---- the process itself
 -- the life of a process after its entry

@@ -22,7 +22,7 @@ use Rattle.kernel_model.specs.declared.verdict.Verdict.TheVariants.{Legal}
 use Rattle.kernel_model.specs.Step.{row_verdict}
 use Rattle.kernel_laws.specs.Effects.{is_end}
 use Rattle.kernel_laws.proofs.Legal.{call_allowed, event_allowed, not_true}
-use Rattle.solo_laws.proofs.Lives.{life_after}
+use Rattle.history_laws.proofs.Lives.{life_after}
 
 alone : (killed : Bool) (s : Signal) → has (cond killed (added 0 Kill) 0) s ≡ true → s ≡ Kill
 alone true s h = elim (or_cases (has 0 s) (number_of s == number_of Kill) (sym (has-added 0 Kill s) ∙ h)) [ inl none ↦ absurd (cc (none, has-none s)) | inr same ↦ number_of-distinct s Kill (eqb-true _ _ same) ]

@@ -1,4 +1,4 @@
--- What the code of a turn goes through: who is told without the groups that an end leaves, and which groups that may be.
+-- What the code of a turn goes through: who is told without the groups that an end leaves, and which groups that may be. No promise cites this file.
 use Rattle.std.specs.Prelude.{Bool, true, false, if◌then◌else◌, List, [], ◌∷◌, filter, All}
 use Rattle.unix_names.specs.declared.Pid.{Pid}
 use Rattle.unix_calls.specs.declared.Call.{Call}
