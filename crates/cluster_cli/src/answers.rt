@@ -41,7 +41,7 @@ pub fn replay(alloc: Global, input: &[u8]) -> Result<Answer, NoMemory>
     match read_runnable(alloc, input) {
         Err(ReadRefusal::NoMemory) => Err(NoMemory),
         Err(ReadRefusal::Bad(fault)) => {
-            let text = fault_line(alloc, fault)?;
+            let text = fault_line(alloc, &fault)?;
             Ok(Answer {
                 status: Status::BadFile,
                 text,
@@ -67,10 +67,11 @@ fn history_text(alloc: Global, given: &Given) -> Result<Vec<u8>, NoMemory>
     put_history(alloc, run.entries.as_slice(), run.is_quiet)
 }
 
-fn fault_line(alloc: Global, fault: Fault) -> Result<Vec<u8>, AllocError>
-    ensures { IfOk result (λ text. text.items ≡ fault_line fault) }
+fn fault_line(alloc: Global, fault: &Fault) -> Result<Vec<u8>, AllocError>
+    ensures { IfOk result (λ text. text.items ≡ fault_line fault.now) }
 {
     let mut text = String::new(alloc);
+    let fault = *fault;
     write!(text, "{fault}\n")?;
     Ok(text.into_bytes())
 }
@@ -85,7 +86,7 @@ pub fn audit(alloc: Global, input: &[u8]) -> Result<Answer, NoMemory>
     match read_given(alloc, input, &parts) {
         Err(ReadRefusal::NoMemory) => Err(NoMemory),
         Err(ReadRefusal::Bad(fault)) => {
-            let text = fault_line(alloc, fault)?;
+            let text = fault_line(alloc, &fault)?;
             Ok(Answer {
                 status: Status::BadFile,
                 text,

@@ -87,7 +87,7 @@ module _ (first : ℕ) (lines : List (List ℕ)) (world : World) (w : IsWhole fi
   scripts_known = subst (AreBelow (names_of lines).scripts) (scripts_counted (names_of lines) first_place lines) (scripts_below (map words lines))
 
   none_started : AreStarted (names_of lines) (world_of lines w.starts) (works (scripts_of (told_of lines))) (variables_listed (map words lines)) refl scripts_known [] first_place
-  none_started = record { count = refl; few = omega arith; each = λ k x e. cc; named = λ k x e. cc; users = All-nil _; work = (omega arith, omega arith) }
+  none_started = record { count = refl; few = omega arith; each = λ k x e. cc; named = λ k x e. cc; users = All-nil _; work = refl }
 
   pub started : AreStarted (names_of lines) (world_of lines w.starts) (works (scripts_of (told_of lines))) (variables_listed (map words lines)) refl scripts_known w.starts (last_place lines)
   started = starts_fit (names_of lines) (world_of lines w.starts) (works (scripts_of (told_of lines))) (variables_listed (map words lines)) refl scripts_known first_place (told_of lines) [] first w.starts walk refl w.judged none_started
