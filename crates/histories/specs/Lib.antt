@@ -2,3 +2,5 @@ pub mod History
 pub mod Laws
 pub mod MethodLoose
 pub mod Reading
+pub mod Stamped
+pub mod Told
