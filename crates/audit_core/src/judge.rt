@@ -2,15 +2,14 @@
 ghost use Rattle.std.specs.Prelude.{◌≡◌, All, IfOk};
 ghost use Rattle.unix_calls.specs.Calls.{EntryHasNames};
 ghost use Rattle.unix_calls.specs.Valid.{IsValid};
-ghost use Rattle.kernel_model.specs.Step.{after, process_of};
+ghost use Rattle.kernel_model.specs.Step.{after};
 ghost use Rattle.kernel_model.specs.Legal.{boot};
 ghost use Rattle.proc_image.specs.Follows.{first_running, after_entry};
 ghost use Rattle.audit_core.specs.Judge.{IsJudged, IsVerdictAt, with_order};
-ghost use Rattle.audit_core.specs.Stamped.{user_of};
 ghost use Rattle.audit_core.specs.Table.{running_of, IsKept};
 
 use crate::scripts::{first_images, is_in_order, move_on};
-use kernel_model::{Kernel, Rule, Verdict, process_of};
+use kernel_model::{Kernel, Rule, Verdict};
 use ordered_table::Table;
 use proc_image::Image;
 use std::alloc::Global;
@@ -28,7 +27,7 @@ pub enum Judged {
 
 /// The kernel and the images of all processes, as they are after the entries that were judged so far.
 #[derive(Debug, Drop)]
-pub struct Judge {
+struct Judge {
     kernel: Kernel,
     images: Table<Image>,
 }
@@ -53,7 +52,7 @@ pub fn audit(alloc: Global, world: &World, entries: &[Entry]) -> Result<Judged, 
 
 impl Judge {
     /// The judge before the first entry.
-    pub fn begin(alloc: Global, world: &World) -> Result<Judge, NoMemory>
+    fn begin(alloc: Global, world: &World) -> Result<Judge, NoMemory>
         requires { IsValid world.now }
         ensures kernel { IfOk result (λ judge. judge.kernel ≡ boot world.now) }
         ensures running { IfOk result (λ judge. running_of judge.images ≡ first_running world.now) }
@@ -64,17 +63,8 @@ impl Judge {
         Ok(Judge { kernel, images })
     }
 
-    /// The user of an entry's process, if the process has a row.
-    pub fn user_of(&mut self, entry: &Entry) -> Option<u32>
-        ensures user { result ≡ user_of self.old.kernel (process_of entry.now) }
-        ensures same { self.new ≡ self.old }
-    {
-        let row = self.kernel.look(process_of(entry))?;
-        Some(row.uid)
-    }
-
     /// Judges the next entry, and takes it in where it breaks no rule. An illegal entry ends the judgement: the judge is of no use afterwards.
-    pub fn step(&mut self, alloc: Global, world: &World, entry: &Entry) -> Result<Verdict, NoMemory>
+    fn step(&mut self, alloc: Global, world: &World, entry: &Entry) -> Result<Verdict, NoMemory>
         requires valid { IsValid world.now }
         requires names { EntryHasNames entry.now }
         requires kept { IsKept world.now self.old.images }

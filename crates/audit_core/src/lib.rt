@@ -11,7 +11,7 @@ mod tests;
 mod told;
 
 pub use judge::{Judged, audit};
-pub use stamps::{JudgedTwo, audit_two, stamp};
+pub use stamps::JudgedTwo;
 
 /// A history has one judgement: it isn't legal and illegal too, and no two entries are the first illegal one, nor two rules the first that it breaks.
 pub fn judgements_are_single()

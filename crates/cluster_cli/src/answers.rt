@@ -1,12 +1,13 @@
 // What a command says of an input.
-ghost use Rattle.std.specs.Prelude.{◌≡◌, ◌≤◌, ◌+◌, ℕ, IfOk, Ok, Err, All, length};
+ghost use Rattle.std.specs.Prelude.{◌≡◌, ◌≤◌, ◌+◌, ◌++◌, ℕ, IfOk, Ok, Err, All, codes, length};
 ghost use Rattle.cluster_core.specs.Run.{run};
 ghost use Rattle.cluster_laws.specs.Laws.{CanRun};
 ghost use Rattle.cluster_cli.specs.Ends.{HasText, input_limit};
 ghost use Rattle.cluster_cli.specs.Input.{fault_text, Means};
 ghost use Rattle.cluster_cli.specs.Replay.{run_text, Replays};
 ghost use Rattle.cluster_cli.specs.Reading.{AreParts};
-ghost use Rattle.cluster_cli.specs.Audit.{HasHistory, HasBadLine, bad_line_text, illegal_text, rule_text, IsVerdict, Audits};
+ghost use Rattle.cluster_cli.specs.Audit.{HasHistory, HasBadLine, verdict_status, IsVerdict, Audits};
+ghost use Rattle.histories.specs.Told.{refusal_text};
 ghost use Rattle.byte_ends.specs.Text.{lines};
 ghost use Rattle.file_parts.specs.Parts.{IsPartOf, front_lines, history_lines};
 ghost use Rattle.unix_calls.specs.Calls.{EntryHasNames};
@@ -17,9 +18,7 @@ use crate::status::Status;
 use audit_core::{Judged, audit as judge};
 use cluster_core::run;
 use file_parts::{Parts, Span, split};
-use histories::{TextRefusal, read_history};
-use kernel_model::Rule;
-use run_text::put_history;
+use histories::{TextRefusal, put_history, read_history};
 use script_words::{Fault, ReadRefusal};
 use std::alloc::{AllocError, Global};
 use unix_calls::{Entry, World};
@@ -111,24 +110,34 @@ fn heard(alloc: Global, input: &[u8], parts: &Parts, given: &Given) -> Result<An
 {
     match history_given(alloc, input, parts.history) {
         Err(TextRefusal::NoMemory) => Err(NoMemory),
-        Err(TextRefusal::BadLine(line)) => bad_line(alloc, line),
+        Err(TextRefusal::BadLine(line)) => bad_line(alloc, TextRefusal::BadLine(line)),
         Ok(entries) => judged(alloc, &given.world, &entries),
     }
 }
 
 // The verdict on a history.
+#[tactic(auto, using(crate::proofs::Single::said))]
 fn judged(alloc: Global, world: &World, entries: &[Entry]) -> Result<Answer, NoMemory>
     requires valid { IsValid world.now }
     requires names { All EntryHasNames entries.now }
     ensures has_text { IfOk result (λ a. HasText a.status) }
     ensures verdict { IfOk result (λ a. IsVerdict world.now entries.now a.status a.text.items) }
 {
-    match judge(alloc, world, entries)? {
-        Judged::Legal => Ok(Answer {
-            status: Status::Done,
-            text: Vec::from_slice(alloc, b"legal\n")?,
-        }),
-        Judged::IllegalAt(number, rule) => illegal(alloc, number, rule),
+    let judged = judge(alloc, world, entries)?;
+    let mut text = String::new(alloc);
+    writeln!(text, "{judged}")?;
+    Ok(Answer {
+        status: status_of(judged),
+        text: text.into_bytes(),
+    })
+}
+
+fn status_of(judged: Judged) -> Status
+    ensures { result ≡ verdict_status judged }
+{
+    match judged {
+        Judged::Legal => Status::Done,
+        Judged::IllegalAt(_, _) => Status::Illegal,
     }
 }
 
@@ -146,58 +155,14 @@ fn history_given(alloc: Global, input: &[u8], part: Option<Span>) -> Result<Vec<
     }
 }
 
-fn bad_line(alloc: Global, line: u32) -> Result<Answer, NoMemory>
+fn bad_line(alloc: Global, refusal: TextRefusal) -> Result<Answer, NoMemory>
     ensures illegal { IfOk result (λ a. a.status ≡ Status.Illegal) }
-    ensures text { IfOk result (λ a. a.text.items ≡ bad_line_text line) }
-{
-    let text = bad_text(alloc, line)?;
-    Ok(Answer {
-        status: Status::Illegal,
-        text,
-    })
-}
-
-fn illegal(alloc: Global, number: u64, rule: Rule) -> Result<Answer, NoMemory>
-    ensures illegal { IfOk result (λ a. a.status ≡ Status.Illegal) }
-    ensures text { IfOk result (λ a. a.text.items ≡ illegal_text number rule) }
-{
-    let text = illegal_text(alloc, number, rule)?;
-    Ok(Answer {
-        status: Status::Illegal,
-        text,
-    })
-}
-
-fn bad_text(alloc: Global, line: u32) -> Result<Vec<u8>, AllocError>
-    ensures { IfOk result (λ text. text.items ≡ bad_line_text line) }
+    ensures text { IfOk result (λ a. a.text.items ≡ refusal_text refusal ++ codes "\n") }
 {
     let mut text = String::new(alloc);
-    text.push_str("bad text at line ")?;
-    write!(text, "{line}")?;
-    text.push_str("\n")?;
-    Ok(text.into_bytes())
-}
-
-fn illegal_text(alloc: Global, number: u64, rule: Rule) -> Result<Vec<u8>, AllocError>
-    ensures { IfOk result (λ text. text.items ≡ illegal_text number rule) }
-{
-    let mut text = String::new(alloc);
-    text.push_str("illegal at ")?;
-    write!(text, "{number}")?;
-    text.push_str(": ")?;
-    text.push_str(rule_text(rule))?;
-    text.push_str("\n")?;
-    Ok(text.into_bytes())
-}
-
-fn rule_text(rule: Rule) -> &'static str
-    ensures { result.now ≡ rule_text rule }
-{
-    match rule {
-        Rule::UnknownProcess => "unknown process",
-        Rule::ScriptOrder => "script order",
-        Rule::SignalFirst => "signal first",
-        Rule::WrongReply => "reply",
-        Rule::WrongEvent => "event",
-    }
+    writeln!(text, "{refusal}")?;
+    Ok(Answer {
+        status: Status::Illegal,
+        text: text.into_bytes(),
+    })
 }

@@ -5,7 +5,8 @@ ghost use Rattle.std.specs.String.{string_bytes};
 ghost use Rattle.byte_ends.specs.Text.{lines};
 ghost use Rattle.unix_calls.specs.Calls.{IsEntry};
 ghost use Rattle.histories.specs.Reading.{AreWords};
-ghost use Rattle.histories.specs.Stamped.{stamped_line, text_two, SpellsStamped, IsFormatTwo, HasFormatTwo, IsHistoryTwo, IsFirstBadTwo};
+ghost use Rattle.histories.specs.MethodNumeral.{begins_otherwise};
+ghost use Rattle.histories.specs.Stamped.{stamped_line, text_two, SpellsStamped, is_format_two, IsFormatTwo, HasFormatTwo, IsHistoryTwo, IsFirstBadTwo};
 
 use crate::entries::entry_of;
 use crate::reader::{Meaning, TextRefusal, read_values};
@@ -99,7 +100,7 @@ fn behind_format_line(alloc: Global, text: &[u8]) -> Result<Option<usize>, Alloc
 }
 
 fn is_format_two(words: &[&[u8]]) -> bool
-    ensures { IsTrue result ↔ (map (λ w. w.now) words.now ≡ codes "format" ∷ codes "2" ∷ []) }
+    ensures { result ≡ is_format_two (map (λ w. w.now) words.now) }
 {
     match words {
         [word, number] => is_word(word, "format") && is_word(number, "2"),
@@ -140,10 +141,10 @@ fn stamped_of(alloc: Global, words: &[&[u8]]) -> Result<Option<Stamped>, AllocEr
 
 // The number below 2^64 of which a word is written: decimal digits without leading zeros.
 fn numeral(word: &[u8]) -> Option<u64>
-    ensures some { IfSome result (λ n. word.now ≡ decimal n) }
+    ensures some { IfSome result (λ n. (word.now ≡ decimal n) × (n < 2 ^ 64)) }
     ensures none { IfNone result ((n : ℕ) → n < 2 ^ 64 → word.now ≡ decimal n → ⊥) }
 {
-    if matches!(word, [b'+', ..] | [b'0', _, ..]) {
+    if begins_otherwise(word) {
         return None;
     }
     match std::str::from_utf8(word) {
@@ -152,9 +153,19 @@ fn numeral(word: &[u8]) -> Option<u64>
     }
 }
 
+// Whether a word begins with a plus, or with a zero and more.
+fn begins_otherwise(word: &[u8]) -> bool
+    ensures { result ≡ begins_otherwise word.now }
+{
+    match word {
+        [] => false,
+        [first, rest @ ..] => *first == b'+' || (*first == b'0' && !rest.is_empty()),
+    }
+}
+
 // The number below 2^32 of which a word is written.
 fn small_numeral(word: &[u8]) -> Option<u32>
-    ensures some { IfSome result (λ n. word.now ≡ decimal n) }
+    ensures some { IfSome result (λ n. (word.now ≡ decimal n) × (n < 2 ^ 32)) }
     ensures none { IfNone result ((n : ℕ) → n < 2 ^ 32 → word.now ≡ decimal n → ⊥) }
 {
     let number = numeral(word)?;
