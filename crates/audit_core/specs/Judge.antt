@@ -1,5 +1,5 @@
 -- what the judge of a history says
-use Rattle.std.specs.Prelude.{◌≡◌, ◌<◌, ℕ, suc, Bool, true, false, List, take, slice_get, Option, None, Some, codes}
+use Rattle.std.specs.Prelude.{◌≡◌, ◌<◌, ℕ, suc, Bool, true, false, List, take, slice_get, Option, None, Some}
 use Rattle.unix_calls.specs.declared.Entry.{Entry}
 use Rattle.unix_calls.specs.declared.World.{World}
 use Rattle.process_table.specs.declared.Row.{Row}
@@ -61,14 +61,6 @@ abbrev pub with_order : Bool → Verdict → Option Breach
 with_order in_order (kernel.Illegal rules.UnknownProcess) = Some UnknownProcess
 with_order true told = breach_told told
 with_order false told = Some ScriptOrder
-
--- the words by which a broken rule is told
-abbrev pub rule_text : Breach → List ℕ
-rule_text UnknownProcess = codes "unknown process"
-rule_text ScriptOrder = codes "script order"
-rule_text SignalFirst = codes "signal first"
-rule_text WrongReply = codes "reply"
-rule_text WrongEvent = codes "event"
 
 -- ---- histories
 -- the entry breaks the rule, where it comes after this history

@@ -5,7 +5,7 @@ ghost use Rattle.unix_calls.specs.Valid.{IsValid};
 ghost use Rattle.kernel_model.specs.Step.{after};
 ghost use Rattle.kernel_model.specs.Legal.{boot};
 ghost use Rattle.proc_image.specs.Follows.{first_running, after_entry};
-ghost use Rattle.audit_core.specs.Judge.{IsJudged, IsVerdictAt, breach_of, with_order, rule_text};
+ghost use Rattle.audit_core.specs.Judge.{IsJudged, IsVerdictAt, breach_of, with_order};
 ghost use Rattle.audit_core.specs.Table.{running_of, IsKept};
 
 use crate::scripts::{first_images, is_in_order, move_on};
@@ -29,21 +29,6 @@ pub enum Breach {
     WrongReply,
     /// The event may not happen.
     WrongEvent,
-}
-
-impl Breach {
-    /// The words by which it is told.
-    pub fn text(self) -> &'static str
-        ensures { result.now ≡ rule_text self }
-    {
-        match self {
-            Breach::UnknownProcess => "unknown process",
-            Breach::ScriptOrder => "script order",
-            Breach::SignalFirst => "signal first",
-            Breach::WrongReply => "reply",
-            Breach::WrongEvent => "event",
-        }
-    }
 }
 
 /// What is said of a history.

@@ -5,10 +5,13 @@ ghost use Rattle.audit_core.specs.Laws.{HasOneJudgement};
 
 mod judge;
 mod scripts;
+mod stamps;
 #[cfg(test)]
 mod tests;
+mod told;
 
 pub use judge::{Breach, Judged, audit};
+pub use stamps::JudgedTwo;
 
 /// A history has one judgement: it isn't legal and illegal too, and no two entries are the first illegal one, nor two rules the first that it breaks.
 pub fn judgements_are_single()

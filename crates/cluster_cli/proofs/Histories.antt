@@ -5,7 +5,7 @@ use Rattle.std.proofs.lemmas.List.Elements.{All-nil, All-cons}
 use Rattle.unix_calls.specs.declared.Entry.{Entry}
 use Rattle.unix_calls.specs.Calls.{EntryHasNames}
 use Rattle.file_parts.specs.Parts.{Lines}
-use Rattle.histories.specs.Reading.{is_nothing, is_schedule, is_last, OnLine, IsHistory}
+use Rattle.histories.specs.Reading.{Means, is_nothing, is_schedule, is_last, OnLine, IsHistory}
 use Rattle.cluster_cli.specs.Audit.{HasHistory}
 
 no_entries : (es : List Entry) → es ≡ [] → All EntryHasNames es
@@ -15,7 +15,7 @@ either : (b : Bool) (P Q R : Type 0) → (P → R) → (Q → R) → MatchBool b
 either true P Q R f g h = f h
 either false P Q R f g h = g h
 
-on_line : (l : List _) (Rest : List Entry → Type 0) → ((es : List Entry) → Rest es → All EntryHasNames es) → (es : List Entry) → OnLine l Rest es → All EntryHasNames es
+on_line : (l : List _) (Rest : List Entry → Type 0) → ((es : List Entry) → Rest es → All EntryHasNames es) → (es : List Entry) → OnLine Means l Rest es → All EntryHasNames es
 on_line l Rest f [] h = absurd h
 on_line l Rest f (e ∷ es) h = All-cons EntryHasNames e es h.0.is_entry.1 (f es h.1)
 

@@ -1,9 +1,10 @@
 -- What is read of an input is what it means, and the fault that is told is its least one.
-use Rattle.std.proofs.Common.{◌≡◌, ◌⊎◌, inl, inr, ℕ, ◌+◌, ◌<◌, ◌≤◌, Bool, true, false, cond, List, length, refl, sym, ap, subst, ◌∙◌, arith, Option, Some, None, Result, Ok, Err}
+use Rattle.std.proofs.Common.{◌≡◌, ◌⊎◌, inl, inr, ℕ, ◌+◌, ◌<◌, ◌≤◌, Bool, true, false, cond, List, [], ◌∷◌, length, refl, sym, ap, subst, ◌∙◌, arith, Option, Some, None, Result, Ok, Err}
 use Rattle.std.specs.Prelude.{map, nat_lt}
-use Rattle.std.proofs.lemmas.Bool.{ltb-true, ltb-false}
+use Rattle.std.proofs.lemmas.Bool.{ltb-true, ltb-false, lt-ltb, le-ltb}
 use Rattle.byte_ends.specs.Text.{lines, words}
 use Rattle.unix_calls.specs.declared.Turn.{Turn}
+use Rattle.unix_calls.specs.declared.Turn.TheVariants.{Auto}
 use Rattle.unix_calls.specs.declared.World.{World}
 use Rattle.file_parts.specs.Parts.{Lines, world_lines, front_lines, schedule_lines, history_lines}
 use Rattle.script_words.specs.declared.faults.Fault.{Fault}
@@ -14,9 +15,10 @@ use Rattle.script_laws.specs.Grammar.{IsFile}
 use Rattle.script_laws.proofs.Exact.{read_is_file}
 use Rattle.script_laws.proofs.Whole.{file_read}
 use Rattle.fault_laws.proofs.Least.{least_told}
+use Rattle.run_text.proofs.FaultLaws as turns
 use Rattle.cluster_cli.specs.declared.input.Given.{Given}
 use Rattle.cluster_cli.specs.Found.{turns_given, with_turns, with_schedule, meaning, refused_history, without_history, many_nodes, least, on_one_node, runnable}
-use Rattle.cluster_cli.specs.Input.{schedule_first, Means, IsScheduleFault, IsFault, asking_line, IsRun, IsHistoryFault, IsFaultOfRun, IsLesser, IsRefused}
+use Rattle.cluster_cli.specs.Input.{schedule_first, Means, IsFaultOfTurns, IsScheduleFault, IsFault, asking_line, IsRun, IsHistoryFault, IsFaultOfRun, IsLesser, IsRefused}
 
 ok_same : {A E : Type 0} (x y : A) → ◌≡◌ {A = Result A E} (Ok x) (Ok y) → x ≡ y
 ok_same x y e = cc
@@ -29,6 +31,15 @@ ok_err x y e = cc
 
 some_same : {A : Type 0} (x y : A) → ◌≡◌ {A = Option A} (Some x) (Some y) → x ≡ y
 some_same x y e = cc
+
+-- ---- the faults of a schedule
+fault_of_turns : (nodes first : ℕ) (ls : Option Lines) (fault : Fault) → turns_given nodes first ls ≡ Err fault → IsFaultOfTurns nodes first ls fault
+fault_of_turns nodes first None fault e = absurd (ok_err (Auto 200000 ∷ []) fault e)
+fault_of_turns nodes first (Some ls) fault e = (turns.least_told nodes first ls fault).0 e
+
+turns_fault_told : (nodes first : ℕ) (ls : Option Lines) (fault : Fault) → IsFaultOfTurns nodes first ls fault → turns_given nodes first ls ≡ Err fault
+turns_fault_told nodes first None fault l = absurd l
+turns_fault_told nodes first (Some ls) fault l = (turns.least_told nodes first ls fault).1 l
 
 -- ---- the world and the schedule
 module _ (input : List ℕ) where
@@ -60,7 +71,7 @@ module _ (input : List ℕ) where
   fault_with world fault e (Ok turns) t h = absurd (ok_err (record { world = world; turns = turns }) fault h)
   fault_with world fault e (Err f) t h =
       let is : f ≡ fault = err_same f fault h in
-      inr (record { world = world; spelled = read_is_file 1 world_part world e; told = t ∙ ap (λ (x : Fault). Err x) is })
+      inr (record { world = world; spelled = read_is_file 1 world_part world e; least = fault_of_turns world.nodes (schedule_first input) (schedule_lines (lines input)) fault (t ∙ ap (λ (x : Fault). Err x) is) })
 
   fault_of : (fault : Fault) (r : Result World Fault) → read_part 1 world_part ≡ r → with_schedule (lines input) r ≡ Err fault → IsFault input fault
   fault_of fault (Ok world) e h = fault_with world fault e (turns_of world) refl h
@@ -73,9 +84,9 @@ module _ (input : List ℕ) where
   is_fault fault h = fault_of fault (read_part 1 world_part) refl h
 
   -- the least fault is told
-  fault_told : (fault : Fault) → IsFault input fault → meaning input ≡ Err fault
+  pub fault_told : (fault : Fault) → IsFault input fault → meaning input ≡ Err fault
   fault_told fault (inl l) = rw ((least_told 1 world_part fault).1 l) refl
-  fault_told fault (inr s) = rw (file_read 1 world_part s.world s.spelled, s.told) refl
+  fault_told fault (inr s) = rw (file_read 1 world_part s.world s.spelled, turns_fault_told s.world.nodes (schedule_first input) (schedule_lines (lines input)) fault s.least) refl
 
   -- ---- what is run
   abbrev unheard : Result Given Fault
@@ -146,3 +157,26 @@ module _ (input : List ℕ) where
   -- the fault of an input that is read to be run
   pub is_refused : (fault : Fault) → runnable input ≡ Err fault → IsRefused input fault
   is_refused fault h = refused_with (asking_line input) fault h
+
+  -- ---- what is read of an input that is run, and of one that is refused
+  pub run_read : (g : Given) → IsRun input g → runnable input ≡ Ok g
+  run_read g r = rw (r.one_node, means_read g r.means, r.no_history) refl
+
+  least_other : (number : ℕ) (f : Fault) → number ≤ f.line → least number f ≡ fault_at number UnknownWord
+  least_other number f le = ap (λ b. cond b f (fault_at number UnknownWord)) (le-ltb f.line number le)
+
+  lesser_told : (number : ℕ) (fault : Fault) → IsLesser (Some number) input fault → (r : Result Given Fault) → unheard ≡ r → on_one_node (Some number) r ≡ Err fault
+  lesser_told number fault (inl (f, less)) (Ok g) e = absurd (ok_err g fault (sym e ∙ run_fault_told fault f))
+  lesser_told number fault (inl (f, less)) (Err other) e =
+      let is : other ≡ fault = err_same other fault (sym e ∙ run_fault_told fault f) in
+      ap (λ (x : Fault). Err (least number x)) is ∙ ap (λ b. Err (cond b fault (fault_at number UnknownWord))) (lt-ltb fault.line number less)
+  lesser_told number fault (inr (is, none)) (Ok g) e = ap (λ (x : Fault). Err x) (sym is)
+  lesser_told number fault (inr (is, none)) (Err other) e =
+      ap (λ (x : Fault). Err x) (least_other number other (none other (run_fault other e)) ∙ sym is)
+
+  refused_given : (many : Option ℕ) (fault : Fault) → IsLesser many input fault → on_one_node many unheard ≡ Err fault
+  refused_given None fault f = run_fault_told fault f
+  refused_given (Some number) fault l = lesser_told number fault l unheard refl
+
+  pub refused_told : (fault : Fault) → IsRefused input fault → runnable input ≡ Err fault
+  refused_told fault l = refused_given (asking_line input) fault l

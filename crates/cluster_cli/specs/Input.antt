@@ -1,5 +1,5 @@
 -- What an input means to the commands that read one, and what is wrong with it.
-use Rattle.std.specs.Prelude.{◌≡◌, ◌⊎◌, ℕ, ◌+◌, ◌<◌, ◌≤◌, List, ◌++◌, length, map, codes, Option, Some, None, Ok, Err}
+use Rattle.std.specs.Prelude.{◌≡◌, ◌⊎◌, ℕ, ◌+◌, ◌<◌, ◌≤◌, List, ◌++◌, length, map, codes, Option, Some, None, Ok}
 use Rattle.std.specs.Fmt.{decimal}
 use Rattle.byte_ends.specs.Text.{lines, words}
 use Rattle.unix_calls.specs.declared.World.{World}
@@ -9,6 +9,7 @@ use Rattle.script_words.specs.declared.Kind.TheVariants.{UnknownWord}
 use Rattle.script_words.specs.Kinds.{fault_at, fault_text}
 use Rattle.script_laws.specs.Grammar.{IsFile}
 use Rattle.fault_laws.specs.Told.{IsLeastFault}
+use Rattle.run_text.specs.Faults as turns
 use Rattle.cluster_cli.specs.declared.input.Given.{Given}
 use Rattle.cluster_cli.specs.Found.{turns_given, many_nodes}
 
@@ -22,11 +23,16 @@ pub record Means (input : List ℕ) (given : Given) : Type 0 where
   pub world : IsFile (world_lines (lines input)) given.world
   pub turns : turns_given given.world.nodes (schedule_first input) (schedule_lines (lines input)) ≡ Ok given.turns
 
--- a fault of the schedule behind a world
+-- the least fault of a schedule, where there is one
+abbrev pub IsFaultOfTurns : ℕ → ℕ → Option Lines → Fault → Type 0
+IsFaultOfTurns nodes first None fault = ⊥
+IsFaultOfTurns nodes first (Some ls) fault = turns.IsLeastFault nodes first ls fault
+
+-- the least fault of the schedule behind a world
 pub record IsScheduleFault (input : List ℕ) (fault : Fault) : Type 0 where
   pub world : World
   pub spelled : IsFile (world_lines (lines input)) world
-  pub told : turns_given world.nodes (schedule_first input) (schedule_lines (lines input)) ≡ Err fault
+  pub least : IsFaultOfTurns world.nodes (schedule_first input) (schedule_lines (lines input)) fault
 
 -- the least fault of the world part, or else that of the schedule
 abbrev pub IsFault : List ℕ → Fault → Type 0

@@ -7,3 +7,4 @@ pub mod Input
 pub mod Replay
 pub mod Audit
 pub mod Load
+pub mod Laws

@@ -1,12 +1,13 @@
 // What a command says of an input.
-ghost use Rattle.std.specs.Prelude.{◌≡◌, ◌≤◌, ◌+◌, ℕ, IfOk, Ok, Err, All, length};
+ghost use Rattle.std.specs.Prelude.{◌≡◌, ◌≤◌, ◌+◌, ◌++◌, ℕ, IfOk, Ok, Err, All, codes, length};
 ghost use Rattle.solo_core.specs.Run.{run};
 ghost use Rattle.solo_laws.specs.Laws.{CanRun};
 ghost use Rattle.cluster_cli.specs.Ends.{HasText};
 ghost use Rattle.cluster_cli.specs.Input.{fault_line, Means};
 ghost use Rattle.cluster_cli.specs.Replay.{run_text, Replays};
 ghost use Rattle.cluster_cli.specs.Reading.{AreParts};
-ghost use Rattle.cluster_cli.specs.Audit.{HasHistory, HasBadLine, bad_line_text, illegal_text, IsVerdict, Audits};
+ghost use Rattle.cluster_cli.specs.Audit.{HasHistory, HasBadLine, verdict_status, IsVerdict, Audits};
+ghost use Rattle.histories.specs.Told.{refusal_text};
 ghost use Rattle.byte_ends.specs.Text.{lines};
 ghost use Rattle.file_parts.specs.Parts.{IsPartOf, front_lines, history_lines};
 ghost use Rattle.unix_calls.specs.Calls.{EntryHasNames};
@@ -15,10 +16,9 @@ ghost use Rattle.byte_ends.specs.declared.limits.TheConstants.{LONGEST_INPUT};
 
 use crate::input::{Given, read_given, read_runnable};
 use crate::status::Status;
-use audit_core::{Breach, Judged, audit as judge};
+use audit_core::{Judged, audit as judge};
 use file_parts::{Parts, Span, split};
-use histories::{TextRefusal, read_history};
-use run_text::put_history;
+use histories::{TextRefusal, put_history, read_history};
 use script_words::{Fault, ReadRefusal};
 use solo_core::run;
 use std::alloc::{AllocError, Global};
@@ -107,24 +107,34 @@ fn heard(alloc: Global, input: &[u8], parts: &Parts, given: &Given) -> Result<An
 {
     match history_given(alloc, input, parts.history) {
         Err(TextRefusal::NoMemory) => Err(NoMemory),
-        Err(TextRefusal::BadLine(line)) => bad_line(alloc, line),
+        Err(TextRefusal::BadLine(line)) => bad_line(alloc, TextRefusal::BadLine(line)),
         Ok(entries) => judged(alloc, &given.world, &entries),
     }
 }
 
 // The verdict on a history.
+#[tactic(auto, using(crate::proofs::Single::said))]
 fn judged(alloc: Global, world: &World, entries: &[Entry]) -> Result<Answer, NoMemory>
     requires valid { IsValid world.now }
     requires names { All EntryHasNames entries.now }
     ensures has_text { IfOk result (λ a. HasText a.status) }
     ensures verdict { IfOk result (λ a. IsVerdict world.now entries.now a.status a.text.items) }
 {
-    match judge(alloc, world, entries)? {
-        Judged::Legal => Ok(Answer {
-            status: Status::Done,
-            text: Vec::from_slice(alloc, b"legal\n")?,
-        }),
-        Judged::IllegalAt(number, rule) => illegal(alloc, number, rule),
+    let judged = judge(alloc, world, entries)?;
+    let mut text = String::new(alloc);
+    writeln!(text, "{judged}")?;
+    Ok(Answer {
+        status: status_of(judged),
+        text: text.into_bytes(),
+    })
+}
+
+fn status_of(judged: Judged) -> Status
+    ensures { result ≡ verdict_status judged }
+{
+    match judged {
+        Judged::Legal => Status::Done,
+        Judged::IllegalAt(_, _) => Status::Illegal,
     }
 }
 
@@ -142,46 +152,14 @@ fn history_given(alloc: Global, input: &[u8], part: Option<Span>) -> Result<Vec<
     }
 }
 
-fn bad_line(alloc: Global, line: u32) -> Result<Answer, NoMemory>
+fn bad_line(alloc: Global, refusal: TextRefusal) -> Result<Answer, NoMemory>
     ensures illegal { IfOk result (λ a. a.status ≡ Status.Illegal) }
-    ensures text { IfOk result (λ a. a.text.items ≡ bad_line_text line) }
-{
-    let text = bad_text(alloc, line)?;
-    Ok(Answer {
-        status: Status::Illegal,
-        text,
-    })
-}
-
-fn illegal(alloc: Global, number: u64, rule: Breach) -> Result<Answer, NoMemory>
-    ensures illegal { IfOk result (λ a. a.status ≡ Status.Illegal) }
-    ensures text { IfOk result (λ a. a.text.items ≡ illegal_text number rule) }
-{
-    let text = illegal_text(alloc, number, rule)?;
-    Ok(Answer {
-        status: Status::Illegal,
-        text,
-    })
-}
-
-fn bad_text(alloc: Global, line: u32) -> Result<Vec<u8>, AllocError>
-    ensures { IfOk result (λ text. text.items ≡ bad_line_text line) }
+    ensures text { IfOk result (λ a. a.text.items ≡ refusal_text refusal ++ codes "\n") }
 {
     let mut text = String::new(alloc);
-    text.push_str("bad text at line ")?;
-    write!(text, "{line}")?;
-    text.push_str("\n")?;
-    Ok(text.into_bytes())
-}
-
-fn illegal_text(alloc: Global, number: u64, rule: Breach) -> Result<Vec<u8>, AllocError>
-    ensures { IfOk result (λ text. text.items ≡ illegal_text number rule) }
-{
-    let mut text = String::new(alloc);
-    text.push_str("illegal at ")?;
-    write!(text, "{number}")?;
-    text.push_str(": ")?;
-    text.push_str(rule.text())?;
-    text.push_str("\n")?;
-    Ok(text.into_bytes())
+    writeln!(text, "{refusal}")?;
+    Ok(Answer {
+        status: Status::Illegal,
+        text: text.into_bytes(),
+    })
 }

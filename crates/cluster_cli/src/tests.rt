@@ -16,6 +16,13 @@ const FORGED: &str =
 
 const MISSPELT: &str = "cluster 1\nscript a\nend\nstart 0 a p\nhistory\n2 exti 0\n";
 
+// The child's number is 2^32 + 3, which no process has.
+const LARGE_CHILD: &str = "cluster 1\nscript a\nend\nscript b\nfork c a\nend\nstart 0 b p\nhistory\n2 fork = 4294967299\n";
+
+// A parent is told the low eight bits of a status.
+const LARGE_STATUS: &str =
+    "cluster 1\nscript a\nend\nstart 0 a p\nhistory\n2 waitpid -1 = 3 exited 263\n";
+
 const TWO_NODES: &str = "# two\ncluster 2\nscript a\nend\nstart 0 a p\n";
 
 const MANY_TURNS: &str = "cluster 1\nscript a\nend\nstart 0 a p\nschedule\nauto 200001\n";
@@ -114,6 +121,24 @@ fn answers(rt: HostRuntime) -> Result<(), Fail> {
         (
             audit.as_slice(),
             MISSPELT,
+            none,
+            none,
+            100,
+            Status::Illegal,
+            "bad text at line 6\n",
+        ),
+        (
+            audit.as_slice(),
+            LARGE_CHILD,
+            none,
+            none,
+            100,
+            Status::Illegal,
+            "bad text at line 9\n",
+        ),
+        (
+            audit.as_slice(),
+            LARGE_STATUS,
             none,
             none,
             100,

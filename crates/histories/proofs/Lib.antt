@@ -6,3 +6,5 @@ pub mod Meanings
 pub mod PartLaws
 pub mod Solid
 pub mod WrittenLaws
+pub mod Numerals
+pub mod Stamps

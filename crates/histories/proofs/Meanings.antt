@@ -1,4 +1,4 @@
--- a line means the entry that its words seem to say, or none
+-- words spell the entry that they seem to say, or none
 use Rattle.std.proofs.Common.{inl, inr, ◌≡◌, ◌⊎◌, ℕ, Bool, true, false, ◌&&◌, List, [], ◌∷◌, ◌++◌, refl, ap, sym, subst, ◌∙◌}
 use Rattle.std.specs.Str.{bytes_eq}
 use Rattle.std.proofs.lemmas.Bool.{cases_Bool}
@@ -18,7 +18,7 @@ use Rattle.script_words.specs.Writing.{spaced}
 use Rattle.histories.specs.History.{line_of, call_words, reply_words, event_words}
 use Rattle.unix_calls.specs.Calls.{HasReply}
 use Rattle.histories.specs.MethodLoose.{entry_in}
-use Rattle.histories.specs.Reading.{entry_words, Means}
+use Rattle.histories.specs.Reading.{entry_words, SpellsEntry, AreWords}
 use Rattle.histories.proofs.EntryLaws.{entry-read}
 use Rattle.histories.proofs.FitLaws.{entry-fits, plain-entry}
 use Rattle.histories.proofs.Solid.{Words, solid-words, solid-read}
@@ -40,9 +40,9 @@ plain-read : (e : Entry) → are_plain (entry_words e) ≡ true → words (space
 plain-read (Called caller c r) h = read-back (decimal caller.0) (call_words c ++ reply_words r) h
 plain-read (Happened pid e) h = read-back (decimal pid.0) (event_words e) h
 
--- words that are written as an entry is mean it
-pub meant : (line : List ℕ) (ws : Words) → ws ≡ words line → HasReply (entry_in ws) → spaced ws ++ 10 ∷ [] ≡ 32 ∷ line_of (entry_in ws) → Means line (entry_in ws)
-meant line ws e reply written =
+-- words of a line that are written as an entry is spell it
+pub meant : (ws : Words) → AreWords ws → HasReply (entry_in ws) → spaced ws ++ 10 ∷ [] ≡ 32 ∷ line_of (entry_in ws) → SpellsEntry ws (entry_in ws)
+meant ws (line, e) reply written =
     let fit = entry-fits ws in
     let entry = entry_in ws in
     let same : spaced ws ≡ spaced (entry_words entry) = append_cancel_right (spaced ws) (spaced (entry_words entry)) (10 ∷ []) (written ∙ line-words entry) in
@@ -50,23 +50,23 @@ meant line ws e reply written =
     record {
       is_entry = (reply, fit.1);
       fits = fit.0;
-      spelled = sym e ∙ sym read ∙ ap words same ∙ plain-read entry (plain-entry entry fit.0 fit.1);
+      spelled = sym read ∙ ap words same ∙ plain-read entry (plain-entry entry fit.0 fit.1);
     }
 
--- what a line means, its words seem to say
-pub seems : (line : List ℕ) (ws : Words) (e : Entry) → ws ≡ words line → Means line e → entry_in ws ≡ e
-seems line ws e same m = ap entry_in (same ∙ m.spelled) ∙ entry-read e m.fits m.is_entry.1
+-- what words spell they seem to say
+pub seems : (ws : Words) (e : Entry) → SpellsEntry ws e → entry_in ws ≡ e
+seems ws e m = ap entry_in m.spelled ∙ entry-read e m.fits m.is_entry.1
 
--- and it is written as it is
-pub written_as : (line : List ℕ) (ws : Words) (e : Entry) → ws ≡ words line → Means line e → spaced ws ++ 10 ∷ [] ≡ 32 ∷ line_of (entry_in ws)
-written_as line ws e same m =
-    ap (λ (vs : Words). spaced vs ++ 10 ∷ []) (same ∙ m.spelled) ∙ sym (line-words e) ∙ ap (λ (d : Entry). 32 ∷ line_of d) (sym (seems line ws e same m))
+-- and it is written as they are
+pub written_as : (ws : Words) (e : Entry) → SpellsEntry ws e → spaced ws ++ 10 ∷ [] ≡ 32 ∷ line_of (entry_in ws)
+written_as ws e m =
+    ap (λ (vs : Words). spaced vs ++ 10 ∷ []) m.spelled ∙ sym (line-words e) ∙ ap (λ (d : Entry). 32 ∷ line_of d) (sym (seems ws e m))
 
--- a line means one entry at most
-pub meaning-unique : (line : List ℕ) (d e : Entry) → Means line d → Means line e → d ≡ e
-meaning-unique line d e md me = sym (seems line (words line) d refl md) ∙ seems line (words line) e refl me
+-- words spell one entry at most
+pub spelling-unique : (ws : Words) (d e : Entry) → SpellsEntry ws d → SpellsEntry ws e → d ≡ e
+spelling-unique ws d e md me = sym (seems ws d md) ∙ seems ws e me
 
--- ---- whether a line means an entry
+-- ---- whether words spell an entry
 silent : (r : Reply) → (r ≡ replies.NoReply) ⊎ ¬ (r ≡ replies.NoReply)
 silent replies.Fine = inr (λ e. absurd (cc))
 silent (replies.Number n) = inr (λ e. absurd (cc))
@@ -106,14 +106,13 @@ same xs ys =
       | inr f ↦ inr (λ e. let t = d.1 e in absurd (cc))
     ]
 
-pub entry-known : (l : List ℕ) → ((e : Entry) × Means l e) ⊎ ((e : Entry) → Means l e → ⊥)
-entry-known l =
-    let ws = words l in
+pub entry-known : (ws : Words) → AreWords ws → ((e : Entry) × SpellsEntry ws e) ⊎ ((e : Entry) → SpellsEntry ws e → ⊥)
+entry-known ws are =
     let P : Entry → Type 0 = λ d. HasReply d in
     elim (answered (entry_in ws)) [
-      | inr none ↦ inr (λ d m. none (subst P (sym (seems l ws d refl m)) m.is_entry.0))
+      | inr none ↦ inr (λ d m. none (subst P (sym (seems ws d m)) m.is_entry.0))
       | inl reply ↦ elim (same (spaced ws ++ 10 ∷ []) (32 ∷ line_of (entry_in ws))) [
-        | inl written ↦ inl (entry_in ws, meant l ws refl reply written)
-        | inr other ↦ inr (λ d m. other (written_as l ws d refl m))
+        | inl written ↦ inl (entry_in ws, meant ws are reply written)
+        | inr other ↦ inr (λ d m. other (written_as ws d m))
       ]
     ]

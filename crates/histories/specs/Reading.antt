@@ -48,11 +48,19 @@ abbrev pub Fits : Entry → Type 0
 Fits (Called caller call reply) = (caller.0 < 2 ^ 32) × CallFits call × ReplyFits reply
 Fits (Happened pid event) = pid.0 < 2 ^ 32
 
--- a line means an entry where its words are those that are written of it
-pub record Means (line : List ℕ) (entry : Entry) : Type 0 where
+-- words spell an entry where they are those that are written of it
+pub record SpellsEntry (row : Row) (entry : Entry) : Type 0 where
   pub is_entry : IsEntry entry
   pub fits : Fits entry
-  pub spelled : words line ≡ entry_words entry
+  pub spelled : row ≡ entry_words entry
+
+-- a line means an entry where its words spell it
+abbrev pub Means : List ℕ → Entry → Type 0
+Means line entry = SpellsEntry (words line) entry
+
+-- the words of some line
+abbrev pub AreWords : Row → Type 0
+AreWords row = (line : List ℕ) × (row ≡ words line)
 
 -- ---- what lines are beside entries
 -- whether a line says nothing

@@ -1,22 +1,21 @@
 // The entry that a line means.
 ghost use Rattle.std.specs.Prelude.{◌≡◌, ◌↔◌, ◌≤◌, ◌++◌, ◌∷◌, [], IsTrue, IfOk, IfSome, IsNone, length, map};
-ghost use Rattle.byte_ends.specs.Text.{words as words_in};
 ghost use Rattle.unix_calls.specs.declared.Entry.{Entry};
 ghost use Rattle.script_words.specs.Writing.{spaced};
 ghost use Rattle.histories.specs.History.{line_of};
 ghost use Rattle.unix_calls.specs.Calls.{HasReply};
-ghost use Rattle.histories.specs.Reading.{Means};
+ghost use Rattle.histories.specs.Reading.{AreWords, SpellsEntry};
 
 use crate::loose::entry_in;
 use crate::writer::put_entry;
 use std::alloc::{AllocError, Global};
 use unix_calls::{Call, Entry, Reply};
 
-/// The entry that a line of these words means, if it means one: the words are those that are written of it.
-pub fn entry_of(alloc: Global, line: &[u8], words: &[&[u8]]) -> Result<Option<Entry>, AllocError>
-    requires { map (λ w. w.now) words.now ≡ words_in line.now }
-    ensures found { IfOk result (λ o. IfSome o (Means line.now)) }
-    ensures none { IfOk result (λ o. IsNone o → (e : Entry) → Means line.now e → ⊥) }
+/// The entry that the words of a line spell, if they spell one: the words are those that are written of it.
+pub fn entry_of(alloc: Global, words: &[&[u8]]) -> Result<Option<Entry>, AllocError>
+    requires { AreWords (map (λ w. w.now) words.now) }
+    ensures found { IfOk result (λ o. IfSome o (SpellsEntry (map (λ w. w.now) words.now))) }
+    ensures none { IfOk result (λ o. IsNone o → (e : Entry) → SpellsEntry (map (λ w. w.now) words.now) e → ⊥) }
 {
     let entry = entry_in(words);
     if !has_reply(&entry) {

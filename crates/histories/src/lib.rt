@@ -6,9 +6,11 @@ mod kinds;
 pub mod laws;
 mod loose;
 mod reader;
+mod stamped;
 #[cfg(test)]
 mod tests;
 mod writer;
 
 pub use reader::{TextRefusal, read_history};
+pub use stamped::{Stamped, put_history_two, read_history_two};
 pub use writer::put_history;

@@ -2,7 +2,7 @@
 ghost use Rattle.std.specs.Prelude.{◌≡◌, ◌≤◌, ◌<◌, ◌^◌, ◌+◌, ℕ, length, drop, slice_range, IfOk, OnOk, Err};
 ghost use Rattle.byte_ends.specs.Text.{lines};
 ghost use Rattle.histories.specs.declared.reader.TextRefusal.TheVariants.{NoMemory as OutOfMemory};
-ghost use Rattle.histories.specs.Reading.{IsHistory, IsFirstBad, IsEndBad, Ends};
+ghost use Rattle.histories.specs.Reading.{IsHistory, IsFirstBad, IsHistoryOf, IsFirstBadOf, IsEndBad, Ends};
 
 use crate::entries::entry_of;
 use crate::kinds::{is_last, is_only};
@@ -10,17 +10,31 @@ use byte_ends::{next_line, words_of};
 use file_parts::Span;
 use script_words::is_skipped;
 use std::alloc::{AllocError, AllocFailed, Global};
-use thiserror::Error;
+use std::fmt;
 use unix_calls::Entry;
 
 /// Why a history was not read.
-#[derive(Clone, Copy, Debug, PartialEq, Eq, Error)]
+#[derive(Clone, Copy, Debug, PartialEq, Eq)]
 pub enum TextRefusal {
-    #[error("bad history: line {0}")]
     BadLine(u32),
-    #[error("out of memory")]
     NoMemory,
 }
+
+impl fmt::Display for TextRefusal {
+    ghost use Rattle.std.specs.Prelude.{Some};
+    ghost use Rattle.histories.specs.Told.{refusal_text};
+
+    ghost output = { λ refusal. Some (refusal_text refusal) };
+
+    fn fmt<W: fmt::Write>(&self, f: &mut fmt::Formatter<W>) -> fmt::Result {
+        match *self {
+            TextRefusal::BadLine(line) => write!(f, "bad text at line {line}"),
+            TextRefusal::NoMemory => write!(f, "out of memory"),
+        }
+    }
+}
+
+impl std::error::Error for TextRefusal {}
 
 impl From<AllocError> for TextRefusal {
     ghost from_gives = { λ _ e. e ≡ OutOfMemory };
@@ -51,24 +65,63 @@ pub fn read_history(alloc: Global, bytes: &[u8], part: Span) -> Result<Vec<Entry
     ensures bad { let ls = lines (slice_range bytes.now part.from part.to) in
         (line : ℕ) → result ≡ Err (TextRefusal.BadLine line) → IsFirstBad ls part.first_line line }
 {
-    let text = &bytes[part.from..part.to];
-    let mut entries = Vec::new(alloc);
-    let mut at = 0;
-    let mut number = part.first_line;
+    read_values(alloc, &bytes[part.from..part.to], 0, part.first_line)
+}
+
+/// What a line of a history can mean.
+pub trait Meaning: Sized + Drop {
+    ghost use Rattle.std.specs.Prelude.{◌≡◌, ℕ, List, IfOk, IfSome, IsNone, map};
+    ghost use Rattle.byte_ends.specs.Text.{words as words_in};
+
+    ghost means: { List ℕ → Self → Type 0 };
+
+    /// The value that a line of these words means, if it means one.
+    fn read(alloc: Global, line: &[u8], words: &[&[u8]]) -> Result<Option<Self>, AllocError>
+        requires { map (λ w. w.now) words.now ≡ words_in line.now }
+        ensures found { IfOk result (λ o. IfSome o (means line.now)) }
+        ensures none { IfOk result (λ o. IsNone o → (x : Self) → means line.now x → ⊥) };
+}
+
+impl Meaning for Entry {
+    ghost use Rattle.histories.specs.Reading.{Means};
+
+    ghost means = { Means };
+
+    fn read(alloc: Global, _line: &[u8], words: &[&[u8]]) -> Result<Option<Entry>, AllocError> {
+        entry_of(alloc, words)
+    }
+}
+
+/// The values that the lines of a text mean from a place on, where the line there has this number, up to the end of the history; or the first bad line.
+pub fn read_values<M: Meaning>(
+    alloc: Global,
+    text: &[u8],
+    from: usize,
+    first: u32,
+) -> Result<Vec<M>, TextRefusal>
+    requires few { length text.now < 2 ^ 31 }
+    requires within { from ≤ length text.now }
+    requires first { first ≤ 2 ^ 31 + from }
+    ensures values { IfOk result (λ v. IsHistoryOf M.means (lines (drop from text.now)) v.items) }
+    ensures bad { (line : ℕ) → result ≡ Err (TextRefusal.BadLine line) → IsFirstBadOf M.means (lines (drop from text.now)) first line }
+{
+    let mut values = Vec::new(alloc);
+    let mut at = from;
+    let mut number = first;
     while let Some((from, to, next)) = next_line(text, at) {
         let line = &text[from..to];
         let words = words_of(alloc, line)?;
         if !is_skipped(&words) {
             if is_only(&words, "schedule") {
-                return Ok(entries);
+                return Ok(values);
             }
             if is_last(&words) {
                 ends(alloc, text, next, number + 1)?;
-                return Ok(entries);
+                return Ok(values);
             }
-            match entry_of(alloc, line, &words) {
-                Ok(Some(entry)) => {
-                    if entries.push(entry).is_err() {
+            match M::read(alloc, line, &words) {
+                Ok(Some(value)) => {
+                    if values.push(value).is_err() {
                         return Err(TextRefusal::NoMemory);
                     }
                 }
@@ -79,7 +132,7 @@ pub fn read_history(alloc: Global, bytes: &[u8], part: Span) -> Result<Vec<Entry
         at = next;
         number += 1;
     }
-    Ok(entries)
+    Ok(values)
 }
 
 // Passes where the lines from a place on say nothing, up to the end or to a schedule.

@@ -1,7 +1,7 @@
 // Lines that histories have and that have no meaning.
 ghost use Rattle.std.specs.Prelude.{◌≡◌, length};
 
-use crate::{TextRefusal, read_history};
+use crate::{Stamped, TextRefusal, put_history_two, read_history, read_history_two};
 use file_parts::Span;
 use std::alloc::Global;
 use std::process::Abort;
@@ -222,6 +222,67 @@ fn reads_events(rt: HostRuntime) -> Result<(), Fail> {
     ];
     for (text, event) in cases {
         is_read(&rt, rt.alloc(), text, &[happened(1_000_002, event)])?;
+    }
+    Ok(())
+}
+
+const FORMAT_TWO: &[u8] = b"format 2\n1 0 2 fork = 1000002\n18446744073709551615 7 2 exit 0\nquiet\n";
+
+fn two_stamped() -> [Stamped; 2] {
+    [
+        Stamped {
+            place: 1,
+            uid: 0,
+            entry: called(2, Call::Fork, Reply::Number(1_000_002)),
+        },
+        Stamped {
+            place: 18_446_744_073_709_551_615,
+            uid: 7,
+            entry: called(2, Call::Exit(0), Reply::NoReply),
+        },
+    ]
+}
+
+#[test]
+fn writes_and_reads_stamped_entries(rt: HostRuntime) -> Result<(), Fail> {
+    let alloc = rt.alloc();
+    let written = put_history_two(alloc, &two_stamped(), true).map_err(|_| Fail::from(
+        "no memory",
+    ))?;
+    assert_eq!(rt; written.as_slice(), FORMAT_TWO);
+    let read = read_history_two(alloc, FORMAT_TWO, whole(FORMAT_TWO)).map_err(|_| Fail::from(
+        "bad line",
+    ))?;
+    let entries = read.unwrap_or(Vec::new(alloc));
+    assert_eq!(rt; entries.as_slice(), two_stamped().as_slice());
+    Ok(())
+}
+
+// Another format, and lines that no stamped entry has: a number of the first bad line, or none where the first line is not `format 2`.
+#[test]
+fn tells_format_two(rt: HostRuntime) -> Result<(), Fail> {
+    let alloc = rt.alloc();
+    let cases: [(&[u8], Option<u32>); 9] = [
+        (b"", None),
+        (b"# a note\nformat 2\n", None),
+        (b"format 2 2\n", None),
+        (b"format 02\n", None),
+        (b" format  2\n\n1 0 exit 0\n", Some(3)),
+        (b"format 2\n01 0 2 exit 0\n", Some(2)),
+        (b"format 2\n+1 0 2 exit 0\n", Some(2)),
+        (b"format 2\n18446744073709551616 0 2 exit 0\n", Some(2)),
+        (b"format 2\n1 4294967296 2 exit 0\n", Some(2)),
+    ];
+    for (text, line) in cases {
+        assert!(rt; text.len() < 100);
+        match read_history_two(alloc, text, whole(text)) {
+            Ok(read) => {
+                assert!(rt; read.is_none());
+                assert_eq!(rt; line, None);
+            }
+            Err(TextRefusal::BadLine(number)) => assert_eq!(rt; line, Some(number)),
+            Err(TextRefusal::NoMemory) => return Err(Fail::from("no memory")),
+        }
     }
     Ok(())
 }

@@ -25,7 +25,8 @@ pub fn put_history(alloc: Global, entries: &[Entry], is_quiet: bool) -> Result<V
     Ok(text.into_bytes())
 }
 
-fn put_last(text: &mut String, is_quiet: bool) -> Result<(), AllocError>
+/// Puts the last line at the end of a text. Where memory runs out the text may have part of it.
+pub fn put_last(text: &mut String, is_quiet: bool) -> Result<(), AllocError>
     ensures { OnOk result (string_bytes text.new ≡ string_bytes text.old ++ last_line is_quiet) }
 {
     if is_quiet {

@@ -1,5 +1,6 @@
-use Rattle.histories.proofs.Meanings.{meaning-unique}
+use Rattle.byte_ends.specs.Text.{words}
+use Rattle.histories.proofs.Meanings.{spelling-unique}
 use Rattle.histories.proofs.laws.one_meaning.Goals as goal
 
 pub returns : goal.returns
-returns c = meaning-unique
+returns c = λ line d e. spelling-unique (words line) d e

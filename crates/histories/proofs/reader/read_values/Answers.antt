@@ -5,14 +5,15 @@ use Rattle.std.proofs.lemmas.Result.{err_from_is_err_and}
 use Rattle.std.proofs.lemmas.Grind.{common_steps}
 use Rattle.byte_ends.specs.Text.{lines}
 use Rattle.unix_calls.specs.declared.Entry.{Entry}
-use Rattle.histories.specs.Reading.{is_nothing, is_schedule, is_last, IsFirstBad, Means, Fits}
+use Rattle.histories.specs.Reading.{Meanings, is_nothing, is_schedule, is_last, IsFirstBadOf}
 use Rattle.histories.proofs.HistoryLaws.{Reached, reached-end, reached-nothing, reached-entry, reached-schedule, reached-last, reached-bad, reached-bad_end}
-use Rattle.histories.proofs.reader.read_history.Goals as goal
-use Rattle.histories.proofs.reader.read_history.Goals.{then-not-is_skipped+else-is_only+else-is_last+in-Ok-Some+else-is_err, else-not-is_skipped}
+use Rattle.histories.proofs.reader.read_values.Goals as goal
+use Rattle.histories.proofs.reader.read_values.Goals.{then-not-is_skipped+else-is_only+else-is_last+in-Ok-Some+else-is_err, else-not-is_skipped}
 
-pub returns-then-is_only-clause-entries : goal.returns-then-is_only-clause-entries
-returns-then-is_only-clause-entries c =
-    let text = slice_range c.args.bytes.now c.args.part.from c.args.part.to in
+pub returns-then-is_only-clause-values : goal.returns-then-is_only-clause-values
+returns-then-is_only-clause-values g c =
+    let M : Meanings g.row.M.Denot = g.M.Meaning.means in
+    let text = c.args.text.now in
     let at = c.loop-from.at in
     let l = slice_range text c.in-Some.from c.in-Some.to in
     let r = c.loop-from.invariant.reached in
@@ -26,11 +27,12 @@ returns-then-is_only-clause-entries c =
     let only = c.is_only.ensures in
     let nothing : is_nothing l ≡ false = cc in
     let told : is_schedule l ≡ true = cc in
-    reached-schedule Means (lines text) (lines (drop at text)) c.args.part.first_line c.loop-from.number c.loop-from.entries.items r l (lines (drop c.in-Some.next text)) first nothing told
+    reached-schedule M (lines (drop c.args.from text)) (lines (drop at text)) c.args.first c.loop-from.number c.loop-from.values.items r l (lines (drop c.in-Some.next text)) first nothing told
 
 pub returns-in_err-ends-clause-bad : goal.returns-in_err-ends-clause-bad
-returns-in_err-ends-clause-bad c = λ bad e.
-    let text = slice_range c.args.bytes.now c.args.part.from c.args.part.to in
+returns-in_err-ends-clause-bad g c = λ bad e.
+    let M : Meanings g.row.M.Denot = g.M.Meaning.means in
+    let text = c.args.text.now in
     let at = c.loop-from.at in
     let l = slice_range text c.in-Some.from c.in-Some.to in
     let r = c.loop-from.invariant.reached in
@@ -48,11 +50,12 @@ returns-in_err-ends-clause-bad c = λ bad e.
     let unscheduled : is_schedule l ≡ false = cc in
     let told : is_last l ≡ true = cc in
     let p = err_from_is_err_and c.from_residual-in_err-ends.result c.from_residual-in_err-ends.ensures.1 in
-    reached-bad_end Means (lines text) (lines (drop at text)) c.args.part.first_line c.loop-from.number c.loop-from.entries.items r l (lines (drop c.in-Some.next text)) first bad nothing unscheduled told (c.in_err-ends.ensures.bad bad (cc))
+    reached-bad_end M (lines (drop c.args.from text)) (lines (drop at text)) c.args.first c.loop-from.number c.loop-from.values.items r l (lines (drop c.in-Some.next text)) first bad nothing unscheduled told (c.in_err-ends.ensures.bad bad (cc))
 
-pub returns-then-is_last-clause-entries : goal.returns-then-is_last-clause-entries
-returns-then-is_last-clause-entries c =
-    let text = slice_range c.args.bytes.now c.args.part.from c.args.part.to in
+pub returns-then-is_last-clause-values : goal.returns-then-is_last-clause-values
+returns-then-is_last-clause-values g c =
+    let M : Meanings g.row.M.Denot = g.M.Meaning.means in
+    let text = c.args.text.now in
     let at = c.loop-from.at in
     let l = slice_range text c.in-Some.from c.in-Some.to in
     let r = c.loop-from.invariant.reached in
@@ -69,11 +72,12 @@ returns-then-is_last-clause-entries c =
     let ending = c.is_last.ensures in
     let unscheduled : is_schedule l ≡ false = cc in
     let told : is_last l ≡ true = cc in
-    reached-last Means (lines text) (lines (drop at text)) c.args.part.first_line c.loop-from.number c.loop-from.entries.items r l (lines (drop c.in-Some.next text)) first nothing unscheduled told c.in_ok-ends.ensures.good
+    reached-last M (lines (drop c.args.from text)) (lines (drop at text)) c.args.first c.loop-from.number c.loop-from.values.items r l (lines (drop c.in-Some.next text)) first nothing unscheduled told c.in_ok-ends.ensures.good
 
 pub returns-in-Ok-None-clause-bad : goal.returns-in-Ok-None-clause-bad
-returns-in-Ok-None-clause-bad c = λ bad e.
-    let text = slice_range c.args.bytes.now c.args.part.from c.args.part.to in
+returns-in-Ok-None-clause-bad g c = λ bad e.
+    let M : Meanings g.row.M.Denot = g.M.Meaning.means in
+    let text = c.args.text.now in
     let at = c.loop-from.at in
     let l = slice_range text c.in-Some.from c.in-Some.to in
     let r = c.loop-from.invariant.reached in
@@ -91,12 +95,13 @@ returns-in-Ok-None-clause-bad c = λ bad e.
     let unscheduled : is_schedule l ≡ false = cc in
     let told : is_last l ≡ false = cc in
     let same : c.loop-from.number ≡ bad = cc in
-    let P : ℕ → Type 0 = λ n. IsFirstBad (lines text) c.args.part.first_line n in
-    subst P same (reached-bad Means (lines text) (lines (drop at text)) c.args.part.first_line c.loop-from.number c.loop-from.entries.items r l (lines (drop c.in-Some.next text)) first nothing unscheduled told ((rw c.in-Ok-None.field-0-is at c.in-Ok-None.ensures.none) refl))
+    let P : ℕ → Type 0 = λ n. IsFirstBadOf M (lines (drop c.args.from text)) c.args.first n in
+    subst P same (reached-bad M (lines (drop c.args.from text)) (lines (drop at text)) c.args.first c.loop-from.number c.loop-from.values.items r l (lines (drop c.in-Some.next text)) first nothing unscheduled told ((rw c.in-Ok-None.field-0-is at c.in-Ok-None.ensures.none) refl))
 
 pub loop-from-preserved : goal.loop-from-preserved
-loop-from-preserved c =
-    let text = slice_range c.args.bytes.now c.args.part.from c.args.part.to in
+loop-from-preserved g c =
+    let M : Meanings g.row.M.Denot = g.M.Meaning.means in
+    let text = c.args.text.now in
     let at = c.loop-from.at in
     let l = slice_range text c.in-Some.from c.in-Some.to in
     let r = c.loop-from.invariant.reached in
@@ -106,8 +111,9 @@ loop-from-preserved c =
     let row = c.in_ok-words.ensures in
     let value = c.deref.ensures.value in
     let o = c.in-Some.ensures.order in
-    let Q : List Entry → Type 0 = λ es. Reached Means (lines text) (lines (drop c.in-Some.next text)) c.args.part.first_line (c.loop-from.number + 1) es in
+    let Q : List g.row.M.Denot → Type 0 = λ es. Reached M (lines (drop c.args.from text)) (lines (drop c.in-Some.next text)) c.args.first (c.loop-from.number + 1) es in
     record {
+      after = omega arith;
       within = omega arith;
       number = omega arith;
       reached = elim c.if-not-is_skipped.branch [
@@ -122,21 +128,22 @@ loop-from-preserved c =
             let nothing : is_nothing l ≡ false = cc in
             let unscheduled : is_schedule l ≡ false = cc in
             let told : is_last l ≡ false = cc in
-            let means : Means l w.in-Ok-Some.entry = rw w.in-Ok-Some.field-0-is at w.in-Ok-Some.ensures.found in
-            let pushed : c.if-not-is_skipped.entries.items ≡ c.loop-from.entries.items ++ w.in-Ok-Some.entry ∷ [] = grind (arith, common_steps) in
-            subst Q (sym pushed) (reached-entry Means (lines text) (lines (drop at text)) c.args.part.first_line c.loop-from.number c.loop-from.entries.items r l (lines (drop c.in-Some.next text)) first w.in-Ok-Some.entry nothing unscheduled told means)
+            let means : M l w.in-Ok-Some.value = rw w.in-Ok-Some.field-0-is at w.in-Ok-Some.ensures.found in
+            let pushed : c.if-not-is_skipped.values.items ≡ c.loop-from.values.items ++ w.in-Ok-Some.value ∷ [] = grind (arith, common_steps) in
+            subst Q (sym pushed) (reached-entry M (lines (drop c.args.from text)) (lines (drop at text)) c.args.first c.loop-from.number c.loop-from.values.items r l (lines (drop c.in-Some.next text)) first w.in-Ok-Some.value nothing unscheduled told means)
         | else-not-is_skipped w ↦
             let test = w.if-not-is_skipped.false in
-            let kept = w.entries-is in
+            let kept = w.values-is in
             let nothing : is_nothing l ≡ true = cc in
-            let same : c.if-not-is_skipped.entries.items ≡ c.loop-from.entries.items = cc in
-            subst Q (sym same) (reached-nothing Means (lines text) (lines (drop at text)) c.args.part.first_line c.loop-from.number c.loop-from.entries.items r l (lines (drop c.in-Some.next text)) first nothing)
+            let same : c.if-not-is_skipped.values.items ≡ c.loop-from.values.items = cc in
+            subst Q (sym same) (reached-nothing M (lines (drop c.args.from text)) (lines (drop at text)) c.args.first c.loop-from.number c.loop-from.values.items r l (lines (drop c.in-Some.next text)) first nothing)
       ];
     }
 
-pub returns-clause-entries : goal.returns-clause-entries
-returns-clause-entries c =
-    let text = slice_range c.args.bytes.now c.args.part.from c.args.part.to in
+pub returns-clause-values : goal.returns-clause-values
+returns-clause-values g c =
+    let M : Meanings g.row.M.Denot = g.M.Meaning.means in
+    let text = c.args.text.now in
     let end : c.loop-from.at ≡ length text = first_of (search rules, grind (arith, common_steps)) in
     let past : lines (drop c.loop-from.at text) ≡ [] = ap lines (drop_all c.loop-from.at text (omega arith)) in
-    reached-end Means (lines text) (lines (drop c.loop-from.at text)) c.args.part.first_line c.loop-from.number c.loop-from.entries.items c.loop-from.invariant.reached past
+    reached-end M (lines (drop c.args.from text)) (lines (drop c.loop-from.at text)) c.args.first c.loop-from.number c.loop-from.values.items c.loop-from.invariant.reached past
