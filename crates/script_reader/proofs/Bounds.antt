@@ -14,7 +14,7 @@ use Rattle.script_reader.specs.declared.lines.Item.{Item}
 use Rattle.script_reader.specs.declared.lines.Item.TheVariants as item
 use Rattle.script_reader.specs.declared.lines.StartLine.{StartLine}
 use Rattle.unix_calls.specs.declared.Statement.{Statement}
-use Rattle.script_reader.specs.Starts.{HasNode}
+use Rattle.script_reader.specs.MethodReading.{HasNode}
 use Rattle.script_words.specs.Words.{Word, Row, ◌>>=◌, is_same, word_at, name, number, ended, node, is_skipped}
 use Rattle.script_reader.specs.Statements.{script, statement_of}
 use Rattle.script_reader.specs.Lines.{is_numbered, head_of, start_variable, user, joined, cluster_line, script_line, end_line, statement_line, start_words, start_line, later_line, read_row, read_line, nodes_after, placed_after, place_after}
@@ -148,6 +148,9 @@ within-placed n place nodes head.Unknown w le = record { scripts = omega (arith,
 
 within-more : (n : ℕ) (place : Place) → IsWithin n place → IsWithin (n + 1) place
 within-more n place w = record { scripts = omega (arith, w.scripts); statements = omega (arith, w.statements); starts = omega (arith, w.starts); nodes = w.nodes }
+
+pub within-later : (n m : ℕ) (place : Place) → n ≤ m → IsWithin n place → IsWithin m place
+within-later n m place le w = record { scripts = omega (arith, le, w.scripts); statements = omega (arith, le, w.statements); starts = omega (arith, le, w.starts); nodes = w.nodes }
 
 -- one line more
 pub within-after : (n : ℕ) (names : Names) (place : Place) (line : List ℕ) → IsWithin n place → IsWithin (n + 1) (place_after place (words line) (read_line names place line))

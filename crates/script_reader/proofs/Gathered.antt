@@ -7,11 +7,15 @@ use Rattle.script_words.specs.Words.{Word, Row, word_at}
 use Rattle.script_reader.specs.Names.{Table, noted}
 use Rattle.script_reader.specs.Files.{begins_with, words_behind, numbered, listed}
 
--- the words of lines, and those of one line more
-pub words_behind-push : (first : Word) (at : ℕ) (rows : List Row) (row : Row) → words_behind first at (rows ++ row ∷ []) ≡ words_behind first at rows ++ words_behind first at (row ∷ [])
+-- the words of a line, and those of further lines
+words_behind-more : (first : Word) (at : ℕ) (row : Row) (rows : List Row) → words_behind first at (row ∷ rows) ≡ words_behind first at (row ∷ []) ++ words_behind first at rows
 unfolding words_behind
-words_behind-push first at rows row =
-    ap (map (λ r. word_at r at)) (filter-append (begins_with first) rows (row ∷ [])) ∙ map-append (λ r. word_at r at) (filter (begins_with first) rows) (filter (begins_with first) (row ∷ []))
+words_behind-more first at row rows =
+    ap (map (λ r. word_at r at)) (filter-append (begins_with first) (row ∷ []) rows) ∙ map-append (λ r. word_at r at) (filter (begins_with first) (row ∷ [])) (filter (begins_with first) rows)
+
+words_behind-none : (first : Word) (at : ℕ) → words_behind first at [] ≡ []
+unfolding words_behind
+words_behind-none first at = refl
 
 pub words_behind-yes : (first : Word) (at : ℕ) (row : Row) → begins_with first row ≡ true → words_behind first at (row ∷ []) ≡ word_at row at ∷ []
 unfolding words_behind
@@ -45,23 +49,16 @@ pub number-all : (ws : List (Bor (List ℕ))) (i n : ℕ) (table total : Table) 
 unfolding numbered number_rest
 number-all ws i n table total le so_far = sym (at_drop_all (number_rest table n) ws i le) ∙ so_far
 
--- the words of the lines so far, and those of one line more
-pub words-more : (first : Word) (at : ℕ) (lines : List (Bor (List ℕ))) (i : ℕ) (d : Bor (List ℕ)) (found : List Word) → i < length lines
-    → found ≡ words_behind first at (map words (map (λ l. l.now) (take i lines)))
-    → found ++ words_behind first at (words (get_or lines i d).now ∷ []) ≡ words_behind first at (map words (map (λ l. l.now) (take (i + 1) lines)))
-words-more first at lines i d found lt so_far =
-    let line = get_or lines i d in
-    let split : map words (map (λ l. l.now) (take (i + 1) lines)) ≡ map words (map (λ l. l.now) (take i lines)) ++ words line.now ∷ [] =
-    ap (map words) (ap (map (λ l. l.now)) (take_more lines i d lt) ∙ map-append (λ l. l.now) (take i lines) (line ∷ [])) ∙ map-append words (map (λ l. l.now) (take i lines)) (line.now ∷ []) in
-    ap (λ (f : List Word). f ++ words_behind first at (words line.now ∷ [])) so_far ∙ sym (words_behind-push first at (map words (map (λ l. l.now) (take i lines))) (words line.now)) ∙ ap (words_behind first at) (sym split)
+-- the words that were found, and those of the lines still to come
+pub words-more : (first : Word) (at : ℕ) (text : List ℕ) (from next : ℕ) (line : List ℕ) (found total : List Word) → lines (drop from text) ≡ line ∷ lines (drop next text)
+    → found ++ words_behind first at (map words (lines (drop from text))) ≡ total
+    → (found ++ words_behind first at (words line ∷ [])) ++ words_behind first at (map words (lines (drop next text))) ≡ total
+words-more first at text from next line found total e so_far =
+    append_assoc found (words_behind first at (words line ∷ [])) (words_behind first at (map words (lines (drop next text))))
+    ∙ ap (λ (ws : List Word). found ++ ws) (sym (words_behind-more first at (words line) (map words (lines (drop next text)))) ∙ ap (λ (ls : List (List ℕ)). words_behind first at (map words ls)) (sym e))
+    ∙ so_far
 
--- the lines so far, and those of the rest of a text
-pub lines-more : (found : List (Bor (List ℕ))) (text : List ℕ) (at next : ℕ) (line : Bor (List ℕ)) → lines (drop at text) ≡ line.now ∷ lines (drop next text)
-    → map (λ l. l.now) found ++ lines (drop at text) ≡ lines text → map (λ l. l.now) (found ++ line ∷ []) ++ lines (drop next text) ≡ lines text
-lines-more found text at next line first so_far =
-    ap (λ (f : List (List ℕ)). f ++ lines (drop next text)) (map-append (λ l. l.now) found (line ∷ [])) ∙ append_assoc (map (λ l. l.now) found) (line.now ∷ []) (lines (drop next text)) ∙ ap (λ (f : List (List ℕ)). map (λ l. l.now) found ++ f) (sym first) ∙ so_far
-
-pub lines-all : (found : List (Bor (List ℕ))) (text : List ℕ) (at : ℕ) → at ≡ length text → map (λ l. l.now) found ++ lines (drop at text) ≡ lines text → map (λ l. l.now) found ≡ lines text
-lines-all found text at end so_far =
-    let none : drop at text ≡ [] = drop_all at text (omega arith) in
-    sym (append-nil (map (λ l. l.now) found)) ∙ ap (λ (t : List ℕ). map (λ l. l.now) found ++ lines t) (sym none) ∙ so_far
+pub words-all : (first : Word) (at : ℕ) (text : List ℕ) (from : ℕ) (found total : List Word) → from ≡ length text → found ++ words_behind first at (map words (lines (drop from text))) ≡ total → found ≡ total
+words-all first at text from found total end so_far =
+    let none : drop from text ≡ [] = drop_all from text (omega (arith, end)) in
+    sym (append-nil found) ∙ ap (λ (ws : List Word). found ++ ws) (sym (words_behind-none first at)) ∙ ap (λ (t : List ℕ). found ++ words_behind first at (map words (lines t))) (sym none) ∙ so_far

@@ -1,8 +1,9 @@
 -- the meaning of lines, one line after the other
-use Rattle.std.proofs.Common.{◌≡◌, ℕ, ◌+◌, ◌<◌, ◌≤◌, Bool, true, false, if◌then◌else◌, List, [], ◌∷◌, ◌++◌, length, map, drop, get_or, codes, Bor, Some, None, Result, Ok, Err, OnOk, refl, sym, ap, ◌∙◌, append_assoc}
-use Rattle.std.proofs.lemmas.List.{at_drop_more, at_drop_all, append-nil}
+use Rattle.std.proofs.Common.{◌≡◌, ℕ, ◌+◌, ◌<◌, ◌≤◌, Bool, true, false, if◌then◌else◌, List, [], ◌∷◌, ◌++◌, length, map, drop, get_or, codes, Bor, Option, Some, None, Result, Ok, Err, refl, sym, ap, ◌∙◌, append_assoc, cond, arith}
+use Rattle.std.specs.Prelude.{is_some}
+use Rattle.std.proofs.lemmas.List.{at_drop_more, at_drop_all, append-nil, drop_all}
 use Rattle.std.proofs.lemmas.List.Sums.{fold_push}
-use Rattle.byte_ends.specs.Text.{words}
+use Rattle.byte_ends.specs.Text.{lines, words}
 use Rattle.unix_calls.specs.declared.Script.{Script}
 use Rattle.unix_calls.specs.declared.Start.{Start}
 use Rattle.unix_calls.specs.declared.Statement.{Statement}
@@ -11,7 +12,6 @@ use Rattle.unix_calls.specs.Work.{work, together, work_of, total_work, is_little
 use Rattle.script_reader.specs.declared.bodies.Bodies.{Bodies}
 use Rattle.script_words.specs.declared.faults.Fault.{Fault}
 use Rattle.script_words.specs.declared.faults.Kind.{Kind}
-use Rattle.script_words.specs.declared.faults.ReadRefusal.{ReadRefusal}
 use Rattle.script_words.specs.declared.faults.Kind.TheVariants.{TooMuchWork}
 use Rattle.script_reader.specs.declared.names.Names.{Names}
 use Rattle.script_reader.specs.declared.places.Place.{Place}
@@ -22,60 +22,46 @@ use Rattle.script_words.specs.Words.{Row}
 use Rattle.script_reader.specs.Lines.{read_line, place_after}
 use Rattle.script_words.specs.Kinds.{fault_at}
 use Rattle.script_reader.specs.Files.{Told, begins_with, said, body, tells, place_behind, scripts_of, start_of, with_start, judged}
-use Rattle.script_reader.specs.Starts.{started, HasNode}
-use Rattle.script_reader.specs.Bodies.{scripts_with}
+use Rattle.script_reader.specs.MethodReading.{scripts_with, started, HasNode, judged_with}
+use Rattle.script_reader.specs.declared.marks.Marks.{Marks}
+use Rattle.script_reader.specs.declared.marks.NumberedStart.{NumberedStart}
 use Rattle.unix_calls.specs.declared.limits.TheConstants.{MOST_NODES}
 
-abbrev pub Lines : Type 0
-Lines = List (Bor (List ℕ))
+-- ---- one line more of a text
+-- behind the last line there is none
+pub no-lines : (text : List ℕ) (at : ℕ) → at ≡ length text → lines (drop at text) ≡ []
+no-lines text at e = ap lines (drop_all at text (omega (arith, e)))
 
-scripts_rest : Names → Bodies → Place → Lines → List Script
-scripts_rest names bodies place lines = scripts_with bodies (tells names place (map (λ l. l.now) lines))
+module _ (names : Names) (place : Place) (text : List ℕ) (at next : ℕ) (line : List ℕ) (first : lines (drop at text) ≡ line ∷ lines (drop next text)) where
+  abbrev now : Place
+  now = place_after place (words line) (read_line names place line)
 
-pub scripts-more : (names : Names) (bodies next : Bodies) (place : Place) (lines : Lines) (i : ℕ) (d : Bor (List ℕ)) (total : List Script) → i < length lines
-    → ((rest : List Told) → scripts_with next rest ≡ scripts_with bodies ((words (get_or lines i d).now, read_line names place (get_or lines i d).now) ∷ rest))
-    → scripts_with bodies (tells names place (map (λ l. l.now) (drop i lines))) ≡ total
-    → scripts_with next (tells names (place_after place (words (get_or lines i d).now) (read_line names place (get_or lines i d).now)) (map (λ l. l.now) (drop (i + 1) lines))) ≡ total
-unfolding tells scripts_rest
-scripts-more names bodies next place lines i d total lt step so_far = step _ ∙ sym (at_drop_more (scripts_rest names bodies place) lines i d lt) ∙ so_far
+  abbrev later : List Told
+  later = tells names now (lines (drop next text))
 
-pub scripts-all : (names : Names) (bodies : Bodies) (place : Place) (lines : Lines) (i : ℕ) (total : List Script) → length lines ≤ i
-    → scripts_with bodies (tells names place (map (λ l. l.now) (drop i lines))) ≡ total → scripts_with bodies [] ≡ total
-unfolding tells scripts_rest
-scripts-all names bodies place lines i total le so_far = sym (at_drop_all (scripts_rest names bodies place) lines i le) ∙ so_far
+  tells-first : tells names place (lines (drop at text)) ≡ (words line, read_line names place line) ∷ later
+  unfolding tells
+  tells-first = ap (tells names place) first
 
-place_rest : Names → Place → Lines → Place
-place_rest names place lines = place_behind place (tells names place (map (λ l. l.now) lines))
+  pub scripts-more : (bodies next' : Bodies) (total : List Script)
+      → ((rest : List Told) → scripts_with next' rest ≡ scripts_with bodies ((words line, read_line names place line) ∷ rest))
+      → scripts_with bodies (tells names place (lines (drop at text))) ≡ total → scripts_with next' later ≡ total
+  scripts-more bodies next' total step so_far = step later ∙ ap (scripts_with bodies) (sym tells-first) ∙ so_far
 
-pub place-more : (names : Names) (place : Place) (lines : Lines) (i : ℕ) (d : Bor (List ℕ)) (total : Place) → i < length lines
-    → place_behind place (tells names place (map (λ l. l.now) (drop i lines))) ≡ total
-    → place_behind (place_after place (words (get_or lines i d).now) (read_line names place (get_or lines i d).now)) (tells names (place_after place (words (get_or lines i d).now) (read_line names place (get_or lines i d).now)) (map (λ l. l.now) (drop (i + 1) lines))) ≡ total
-unfolding tells place_behind place_rest
-place-more names place lines i d total lt so_far = sym (at_drop_more (place_rest names place) lines i d lt) ∙ so_far
+  pub place-more : (total : Place) → place_behind place (tells names place (lines (drop at text))) ≡ total → place_behind now later ≡ total
+  unfolding place_behind
+  place-more total so_far = ap (place_behind place) (sym tells-first) ∙ so_far
 
-pub place-all : (names : Names) (place : Place) (lines : Lines) (i : ℕ) (total : Place) → length lines ≤ i
-    → place_behind place (tells names place (map (λ l. l.now) (drop i lines))) ≡ total → place ≡ total
-unfolding tells place_behind place_rest
-place-all names place lines i total le so_far = sym (at_drop_all (place_rest names place) lines i le) ∙ so_far
+  pub marks-more : (works : List Work) (marks next' : Marks) (number : ℕ) (total : Result (List Start) Fault)
+      → ((row : Row) (rest : List Told) → judged_with works [] next'.starts next'.fault (number + 1) rest ≡ judged_with works [] marks.starts marks.fault number ((row, read_line names place line) ∷ rest))
+      → judged_with works [] marks.starts marks.fault number (tells names place (lines (drop at text))) ≡ total
+      → judged_with works [] next'.starts next'.fault (number + 1) later ≡ total
+  marks-more works marks next' number total step so_far =
+      step (words line) later ∙ ap (judged_with works [] marks.starts marks.fault number) (sym tells-first) ∙ so_far
 
--- the lines still to be judged, from a place on
-abbrev pub judged_rest : Names → List Work → List Start → ℕ → Place → List (Bor (List ℕ)) → Result (List Start) Fault
-judged_rest names works starts number place lines = judged works starts number (tells names place (map (λ l. l.now) lines))
-
--- what is judged of the next line and those behind it
-pub judged-here : (names : Names) (works : List Work) (starts : List Start) (number : ℕ) (place : Place) (lines : List (Bor (List ℕ))) (i : ℕ) (d : Bor (List ℕ)) (total : Result (List Start) Fault) → i < length lines
-    → judged_rest names works starts number place (drop i lines) ≡ total
-    → judged works starts number ((words (get_or lines i d).now, read_line names place (get_or lines i d).now) ∷ tells names (place_after place (words (get_or lines i d).now) (read_line names place (get_or lines i d).now)) (map (λ l. l.now) (drop (i + 1) lines))) ≡ total
-unfolding tells
-judged-here names works starts number place lines i d total lt so_far = sym (at_drop_more (judged_rest names works starts number place) lines i d lt) ∙ so_far
-
-pub judged-all : (names : Names) (works : List Work) (starts : List Start) (number : ℕ) (place : Place) (lines : List (Bor (List ℕ))) (i : ℕ) (total : Result (List Start) Fault) → length lines ≤ i
-    → judged_rest names works starts number place (drop i lines) ≡ total → Ok starts ≡ total
-unfolding tells judged
-judged-all names works starts number place lines i total le so_far = sym (at_drop_all (judged_rest names works starts number place) lines i le) ∙ so_far
-
+-- ---- what is judged of a line
 -- a line with a fault is judged that fault
-pub judged-bad : (works : List Work) (starts : List Start) (number : ℕ) (row : Row) (rest : List Told) (read : Result Item Kind) (kind : Kind) → started read ≡ Err kind
+judged-bad : (works : List Work) (starts : List Start) (number : ℕ) (row : Row) (rest : List Told) (read : Result Item Kind) (kind : Kind) → started read ≡ Err kind
     → judged works starts number ((row, read) ∷ rest) ≡ Err (fault_at number kind)
 unfolding judged
 judged-bad works starts number row rest (Err k) kind e = let same : k ≡ kind = cc in rw same refl
@@ -83,31 +69,104 @@ judged-bad works starts number row rest (Ok (item.Starts s)) kind e = absurd cc
 judged-bad works starts number row rest (Ok _) kind e = absurd cc
 
 -- a line that is no start
-pub judged-other : (works : List Work) (starts : List Start) (number : ℕ) (row : Row) (rest : List Told) (read : Result Item Kind) → started read ≡ Ok None
+judged-other : (works : List Work) (starts : List Start) (number : ℕ) (row : Row) (rest : List Told) (read : Result Item Kind) → started read ≡ Ok None
     → judged works starts number ((row, read) ∷ rest) ≡ judged works starts (number + 1) rest
 unfolding judged
 judged-other works starts number row rest (Err k) e = absurd cc
 judged-other works starts number row rest (Ok (item.Starts s)) e = absurd cc
 judged-other works starts number row rest (Ok _) e = refl
 
-pub judged-start : (works : List Work) (starts : List Start) (number : ℕ) (row : Row) (rest : List Told) (read : Result Item Kind) (s : StartLine) → started read ≡ Ok (Some s)
-    → is_little (total_work works (with_start starts s)) ≡ true → judged works starts number ((row, read) ∷ rest) ≡ judged works (with_start starts s) (number + 1) rest
+-- a start
+judged-start : (works : List Work) (starts : List Start) (number : ℕ) (row : Row) (rest : List Told) (read : Result Item Kind) (s : StartLine) → started read ≡ Ok (Some s)
+    → cond (is_little (total_work works (with_start starts s))) (judged works (with_start starts s) (number + 1) rest) (Err (fault_at number TooMuchWork)) ≡ judged works starts number ((row, read) ∷ rest)
 unfolding judged
-judged-start works starts number row rest (Err k) s e little = absurd cc
-judged-start works starts number row rest (Ok (item.Starts t)) s e little = let same : t ≡ s = cc in rw (same, little) refl
-judged-start works starts number row rest (Ok _) s e little = absurd cc
+judged-start works starts number row rest (Err k) s e = absurd cc
+judged-start works starts number row rest (Ok (item.Starts t)) s e = let same : t ≡ s = cc in rw same refl
+judged-start works starts number row rest (Ok _) s e = absurd cc
 
-pub judged-crowded : (works : List Work) (starts : List Start) (number : ℕ) (row : Row) (rest : List Told) (read : Result Item Kind) (s : StartLine) → started read ≡ Ok (Some s)
-    → is_little (total_work works (with_start starts s)) ≡ false → judged works starts number ((row, read) ∷ rest) ≡ Err (fault_at number TooMuchWork)
-unfolding judged
-judged-crowded works starts number row rest (Err k) s e little = absurd cc
-judged-crowded works starts number row rest (Ok (item.Starts t)) s e little = let same : t ≡ s = cc in rw (same, little) refl
-judged-crowded works starts number row rest (Ok _) s e little = absurd cc
+-- ---- what is marked
+-- further lines change what is judged as they would with nothing marked
+alike : (works : List Work) (f g : Option Fault) (n m : ℕ) (rest rest' : List Told)
+    → ((earlier : List Start) → judged_with works earlier [] g m rest' ≡ judged_with works earlier [] f n rest)
+    → (earlier : List Start) (ss : List NumberedStart) → judged_with works earlier ss g m rest' ≡ judged_with works earlier ss f n rest
+unfolding judged_with
+alike works f g n m rest rest' base earlier [] = base earlier
+alike works f g n m rest rest' base earlier (s ∷ ss) =
+    ap (λ (r : Result (List Start) Fault). cond (is_little (total_work works (with_start earlier s.line))) r (Err (fault_at s.number TooMuchWork))) (alike works f g n m rest rest' base (with_start earlier s.line) ss)
+
+grown : (works : List Work) (more : List NumberedStart) (f g : Option Fault) (n m : ℕ) (rest rest' : List Told)
+    → ((earlier : List Start) → judged_with works earlier more g m rest' ≡ judged_with works earlier [] f n rest)
+    → (earlier : List Start) (ss : List NumberedStart) → judged_with works earlier (ss ++ more) g m rest' ≡ judged_with works earlier ss f n rest
+unfolding judged_with
+grown works more f g n m rest rest' base earlier [] = base earlier
+grown works more f g n m rest rest' base earlier (s ∷ ss) =
+    ap (λ (r : Result (List Start) Fault). cond (is_little (total_work works (with_start earlier s.line))) r (Err (fault_at s.number TooMuchWork))) (grown works more f g n m rest rest' base (with_start earlier s.line) ss)
+
+-- behind a fault nothing counts
+pub marked-behind : (works : List Work) (earlier : List Start) (ss : List NumberedStart) (fault : Option Fault) (number : ℕ) (t : Told) (rest : List Told) → is_some fault ≡ true
+    → judged_with works earlier ss fault (number + 1) rest ≡ judged_with works earlier ss fault number (t ∷ rest)
+unfolding judged_with
+marked-behind works earlier ss (Some fault) number t rest h = alike works (Some fault) (Some fault) number (number + 1) (t ∷ rest) rest (λ e. refl) earlier ss
+marked-behind works earlier ss None number t rest h = absurd cc
+
+none-yet : (fault : Option Fault) → is_some fault ≡ false → fault ≡ None
+none-yet None h = refl
+none-yet (Some fault) h = absurd cc
+
+pub marked-bad : (works : List Work) (earlier : List Start) (ss : List NumberedStart) (fault : Option Fault) (number : ℕ) (row : Row) (rest : List Told) (read : Result Item Kind) (kind : Kind)
+    → is_some fault ≡ false → started read ≡ Err kind
+    → judged_with works earlier ss (Some (fault_at number kind)) (number + 1) rest ≡ judged_with works earlier ss fault number ((row, read) ∷ rest)
+unfolding judged_with
+marked-bad works earlier ss fault number row rest read kind h e =
+    rw (none-yet fault h) (alike works None (Some (fault_at number kind)) number (number + 1) ((row, read) ∷ rest) rest (λ starts. sym (judged-bad works starts number row rest read kind e)) earlier ss)
+
+pub marked-other : (works : List Work) (earlier : List Start) (ss : List NumberedStart) (fault : Option Fault) (number : ℕ) (row : Row) (rest : List Told) (read : Result Item Kind)
+    → is_some fault ≡ false → started read ≡ Ok None
+    → judged_with works earlier ss fault (number + 1) rest ≡ judged_with works earlier ss fault number ((row, read) ∷ rest)
+unfolding judged_with
+marked-other works earlier ss fault number row rest read h e =
+    rw (none-yet fault h) (alike works None None number (number + 1) ((row, read) ∷ rest) rest (λ starts. sym (judged-other works starts number row rest read e)) earlier ss)
+
+pub marked-start : (works : List Work) (earlier : List Start) (ss : List NumberedStart) (fault : Option Fault) (number : ℕ) (row : Row) (rest : List Told) (read : Result Item Kind) (s : StartLine)
+    → is_some fault ≡ false → started read ≡ Ok (Some s)
+    → judged_with works earlier (ss ++ record { number = number; line = s } ∷ []) fault (number + 1) rest ≡ judged_with works earlier ss fault number ((row, read) ∷ rest)
+unfolding judged_with
+marked-start works earlier ss fault number row rest read s h e =
+    rw (none-yet fault h) (grown works (record { number = number; line = s } ∷ []) None None number (number + 1) ((row, read) ∷ rest) rest (λ starts. judged-start works starts number row rest read s e) earlier ss)
 
 pub node-in : (read : Result Item Kind) (s : StartLine) → started read ≡ Ok (Some s) → HasNode read → s.node < MOST_NODES
 node-in (Err k) s e h = absurd cc
 node-in (Ok (item.Starts t)) s e h = let same : t ≡ s = cc in rw (← same) h
 node-in (Ok _) s e h = absurd cc
+
+-- ---- the marked starts, one after the other
+module _ (works : List Work) (list : List Start) (ss : List NumberedStart) (i : ℕ) (d : NumberedStart) (fault : Option Fault) (number : ℕ) (total : Result (List Start) Fault) where
+  abbrev rest_of : List NumberedStart → Result (List Start) Fault
+  rest_of marked = judged_with works list marked fault number []
+
+  here : i < length ss → rest_of (drop i ss) ≡ total
+      → cond (is_little (total_work works (with_start list (get_or ss i d).line))) (judged_with works (with_start list (get_or ss i d).line) (drop (i + 1) ss) fault number []) (Err (fault_at (get_or ss i d).number TooMuchWork)) ≡ total
+  unfolding judged_with
+  here lt so_far = sym (at_drop_more rest_of ss i d lt) ∙ so_far
+
+  pub start-taken : i < length ss → is_little (total_work works (with_start list (get_or ss i d).line)) ≡ true → rest_of (drop i ss) ≡ total
+      → judged_with works (with_start list (get_or ss i d).line) (drop (i + 1) ss) fault number [] ≡ total
+  start-taken lt little so_far = rw little at (here lt so_far)
+
+  pub start-crowds : i < length ss → is_little (total_work works (with_start list (get_or ss i d).line)) ≡ false → rest_of (drop i ss) ≡ total → Err (fault_at (get_or ss i d).number TooMuchWork) ≡ total
+  start-crowds lt much so_far = rw much at (here lt so_far)
+
+pub starts-all : (works : List Work) (list : List Start) (ss : List NumberedStart) (i : ℕ) (fault : Option Fault) (number : ℕ) (total : Result (List Start) Fault)
+    → length ss ≤ i → judged_with works list (drop i ss) fault number [] ≡ total → judged_with works list [] fault number [] ≡ total
+starts-all works list ss i fault number total le so_far = sym (at_drop_all (λ marked. judged_with works list marked fault number []) ss i le) ∙ so_far
+
+pub ends-bad : (works : List Work) (list : List Start) (fault : Fault) (number : ℕ) → judged_with works list [] (Some fault) number [] ≡ Err fault
+unfolding judged_with
+ends-bad works list fault number = refl
+
+pub ends-fine : (works : List Work) (list : List Start) (number : ℕ) → judged_with works list [] None number [] ≡ Ok list
+unfolding judged_with judged
+ends-fine works list number = refl
 
 -- a line that begins a script
 pub take-script : (so_far next : Bodies) (row : Row) (read : Result Item Kind) (rest : List Told) → begins_with (codes "script") row ≡ true
@@ -144,10 +203,3 @@ finish-none so_far isnt = rw (isnt, append-nil so_far.whole) refl
 pub total-with : (works : List Work) (starts : List Start) (s : StartLine) (total : Work) → total ≡ total_work works starts → together total (work_of works s.script) ≡ total_work works (with_start starts s)
 unfolding start_of
 total-with works starts s total e = rw e (sym (fold_push (λ t start. together t (work_of works start.script)) (work 0 0) starts (start_of starts s)))
-
--- a start that was taken, unless that was refused
-pub start-taken : (r : Result (Unit {0}) (ReadRefusal Fault)) (works : List Work) (starts next : List Start) (number : ℕ) (read : Result Item Kind) (s : StartLine) → started read ≡ Ok (Some s)
-    → OnOk r (next ≡ with_start starts s) → OnOk r (is_little (total_work works (with_start starts s)) ≡ true)
-    → OnOk r ((row : Row) (rest : List Told) → judged works starts number ((row, read) ∷ rest) ≡ judged works next (number + 1) rest)
-start-taken (Ok x) works starts next number read s is list little = λ row rest. judged-start works starts number row rest read s is little ∙ rw list refl
-start-taken (Err e) works starts next number read s is list little = tt

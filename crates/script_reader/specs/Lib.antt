@@ -1,6 +1,5 @@
-pub mod Bodies
 pub mod Files
 pub mod Lines
+pub mod MethodReading
 pub mod Names
-pub mod Starts
 pub mod Statements

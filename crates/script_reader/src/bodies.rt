@@ -1,6 +1,6 @@
 // The scripts of a file, line by line.
 ghost use Rattle.std.specs.Prelude.{◌≡◌, [], ◌∷◌, ◌++◌, true, false, if◌then◌else◌, List, map, IfOk, OnOk};
-ghost use Rattle.script_reader.specs.Bodies.{scripts_with};
+ghost use Rattle.script_reader.specs.MethodReading.{scripts_with};
 ghost use Rattle.script_reader.specs.Files.{Told, body, scripts_of};
 ghost use Rattle.script_reader.specs.Files as spec;
 
@@ -32,7 +32,7 @@ pub struct Bodies {
 
 impl Bodies {
     /// Before the first line.
-    #[tactic(auto, unfolding(crate::specs::Bodies::scripts_with))]
+    #[tactic(auto, unfolding(crate::specs::MethodReading::scripts_with))]
     pub fn new(alloc: Global) -> Bodies
         ensures { result ≡ record { whole = []; begun = false; last = [] } }
     {
@@ -44,7 +44,7 @@ impl Bodies {
     }
 
     /// Takes the next line, given its words and what it says.
-    #[tactic(auto, unfolding(crate::specs::Bodies::scripts_with))]
+    #[tactic(auto, unfolding(crate::specs::MethodReading::scripts_with))]
     pub fn take_line(
         &mut self,
         alloc: Global,
@@ -79,7 +79,7 @@ impl Bodies {
     }
 
     /// The scripts, behind the last line.
-    #[tactic(auto, unfolding(crate::specs::Bodies::scripts_with))]
+    #[tactic(auto, unfolding(crate::specs::MethodReading::scripts_with))]
     pub fn finish(self) -> Result<Seq<Script>, NoMemory>
         ensures { IfOk result (λ scripts. scripts ≡ scripts_with self []) }
     {

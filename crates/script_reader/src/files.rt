@@ -5,21 +5,23 @@ ghost use Rattle.unix_calls.specs.Work.{works, total_work};
 ghost use Rattle.unix_calls.specs.declared.Script.{Script};
 ghost use Rattle.script_words.specs.declared.faults.Fault.{Fault};
 ghost use Rattle.script_reader.specs.Files as spec;
+ghost use Rattle.script_reader.specs.MethodReading.{Stands, HaveNodes};
 
 use crate::bodies::Bodies;
-use crate::gather::{gather, lines_of};
+use crate::gather::gather;
 use crate::lines::{place_after, read_line};
+use crate::marks::Marks;
 use crate::names::Names;
 use crate::places::{FIRST_PLACE, Place};
-use crate::starts::Starts;
-use byte_ends::take_words;
+use crate::starts::judged;
+use byte_ends::{next_line, take_words};
 use file_parts::Span;
 use script_words::{Kind, ReadRefusal, bad, is_utf8};
 use std::alloc::{AllocError, Global};
-use unix_calls::{Script, Start, Work, World, fill_works};
+use unix_calls::{Script, Work, World, fill_works};
 use unix_names::{NoMemory, Seq};
 
-/// The world that a world part means, or the least fault of it. Memory is linear in the part's length.
+/// The world that a world part means, or the least fault of it. Memory grows with the names, statements and starts of the part, and not with its lines.
 ///
 /// # Errors
 /// `Bad` with the least line that has a fault, counted from the number of the part's first line, and its first fault;
@@ -34,57 +36,86 @@ pub fn read_file(alloc: Global, bytes: &[u8], part: Span) -> Result<World, ReadR
     ensures bad { (fault : Fault) → result ≡ Err (ReadRefusal.Bad fault)
         → spec.read_part part.first_line (lines_in (slice_range bytes.now part.from part.to)) ≡ Err fault }
 {
-    let lines = lines_of(alloc, &bytes[part.from..part.to])?;
-    read_part(alloc, &lines, part.first_line)
+    read_part(alloc, &bytes[part.from..part.to], part.first_line)
 }
 
-fn read_part(alloc: Global, lines: &[&[u8]], first_line: u32) -> Result<World, ReadRefusal>
-    requires short { length lines.now < 2 ^ 31 }
+fn read_part(alloc: Global, text: &[u8], first_line: u32) -> Result<World, ReadRefusal>
+    requires short { length text.now < 2 ^ 31 }
     requires first { 1 ≤ first_line }
     requires numbers { first_line ≤ 2 ^ 31 }
-    ensures world { IfOk result (λ w. spec.read_part first_line (map (λ l. l.now) lines.now) ≡ Ok w) }
-    ensures bad { (fault : Fault) → result ≡ Err (ReadRefusal.Bad fault) → spec.read_part first_line (map (λ l. l.now) lines.now) ≡ Err fault }
+    ensures world { IfOk result (λ w. spec.read_part first_line (lines_in text.now) ≡ Ok w) }
+    ensures bad { (fault : Fault) → result ≡ Err (ReadRefusal.Bad fault) → spec.read_part first_line (lines_in text.now) ≡ Err fault }
 {
-    let names = gather(alloc, lines)?;
-    let (scripts, place) = scripts_of(alloc, &names, lines)?;
+    let names = gather(alloc, text)?;
+    let read = read_lines(alloc, &names, text, first_line)?;
+    let place = read.place;
     if !place.begun {
-        let kind = silent_kind(lines);
+        let kind = silent_kind(text);
         return Err(bad(first_line, kind));
     }
-    let works = works_of(alloc, scripts.as_slice())?;
-    let starts = judged(alloc, &names, &works, lines, first_line)?;
+    let works = works_of(alloc, read.scripts.as_slice())?;
+    let starts = judged(alloc, &works, read.marks.starts.as_slice(), read.marks.fault)?;
     let vars = names.variables.len();
     match end_kind(&place) {
-        Some(kind) => Err(bad(last_line(first_line, lines), kind)),
+        Some(kind) => Err(bad(read.behind - 1, kind)),
         None => Ok(World {
             nodes: place.nodes,
             vars,
-            scripts,
+            scripts: read.scripts,
             starts,
         }),
     }
 }
 
-// The scripts of some lines, and where the line behind them would stand.
-fn scripts_of<'a>(
+/// What the lines of a part say: their scripts, where the line behind them would stand and its number, and their starts
+/// up to the first fault of a line.
+#[derive(Drop)]
+struct Reading {
+    scripts: Seq<Script>,
+    place: Place,
+    marks: Marks,
+    behind: u32,
+}
+
+// Reads each line once.
+fn read_lines<'a>(
     alloc: Global,
     names: &Names<'a>,
-    lines: &[&'a [u8]],
-) -> Result<(Seq<Script>, Place), NoMemory>
-    requires { length lines.now < 2 ^ 31 }
-    ensures scripts { IfOk result (λ x. x.0 ≡ spec.scripts_of (spec.tells names.now spec.first_place (map (λ l. l.now) lines.now))) }
-    ensures place { IfOk result (λ x. x.1 ≡ spec.place_behind spec.first_place (spec.tells names.now spec.first_place (map (λ l. l.now) lines.now))) }
+    text: &'a [u8],
+    first_line: u32,
+) -> Result<Reading, NoMemory>
+    requires short { length text.now < 2 ^ 31 }
+    requires numbers { first_line ≤ 2 ^ 31 }
+    ensures scripts { IfOk result (λ x. x.scripts ≡ spec.scripts_of (spec.tells names.now spec.first_place (lines_in text.now))) }
+    ensures place { IfOk result (λ x. x.place ≡ spec.place_behind spec.first_place (spec.tells names.now spec.first_place (lines_in text.now))) }
+    ensures marks { IfOk result (λ x. Stands x.marks x.behind first_line (spec.tells names.now spec.first_place (lines_in text.now))) }
+    ensures nodes { IfOk result (λ x. HaveNodes x.marks.starts) }
+    ensures few { IfOk result (λ x. length x.marks.starts < 2 ^ 31) }
+    ensures behind { IfOk result (λ x. x.behind ≡ first_line + length (lines_in text.now)) }
 {
     let mut bodies = Bodies::new(alloc);
+    let mut marks = Marks::new(alloc);
     let mut place = FIRST_PLACE;
+    let mut number = first_line;
     let mut words = Vec::new(alloc);
-    for line in lines {
-        take_words(&mut words, *line)?;
-        let read = read_line(names, &place, *line, &words);
+    let mut at = 0;
+    while let Some((from, to, next)) = next_line(text, at) {
+        let line = &text[from..to];
+        take_words(&mut words, line)?;
+        let read = read_line(names, &place, line, &words);
         bodies.take_line(alloc, &words, &read)?;
+        marks.take_line(number, &read)?;
         place = place_after(place, &words, read);
+        number += 1;
+        at = next;
     }
-    Ok((bodies.finish()?, place))
+    let scripts = bodies.finish()?;
+    Ok(Reading {
+        scripts,
+        place,
+        marks,
+        behind: number,
+    })
 }
 
 // The work of each script.
@@ -96,42 +127,14 @@ fn works_of(alloc: Global, scripts: &[Script]) -> Result<Vec<Work>, AllocError>
     Ok(list)
 }
 
-// The starts of some lines, or the first fault of a line.
-fn judged<'a>(
-    alloc: Global,
-    names: &Names<'a>,
-    works: &[Work],
-    lines: &[&'a [u8]],
-    first_line: u32,
-) -> Result<Seq<Start>, ReadRefusal>
-    requires short { length lines.now < 2 ^ 31 }
-    requires numbers { first_line ≤ 2 ^ 31 }
-    ensures starts { IfOk result (λ starts. spec.judged works.now [] first_line (spec.tells names.now spec.first_place (map (λ l. l.now) lines.now)) ≡ Ok starts) }
-    ensures bad { (fault : Fault) → result ≡ Err (ReadRefusal.Bad fault)
-        → spec.judged works.now [] first_line (spec.tells names.now spec.first_place (map (λ l. l.now) lines.now)) ≡ Err fault }
-{
-    let mut starts = Starts::new(alloc);
-    let mut place = FIRST_PLACE;
-    let mut number = first_line;
-    let mut words = Vec::new(alloc);
-    for line in lines {
-        take_words(&mut words, *line)?;
-        let read = read_line(names, &place, *line, &words);
-        starts.take_line(works, number, &read)?;
-        place = place_after(place, &words, read);
-        number += 1;
-    }
-    Ok(starts.list)
-}
-
 // What is wrong with a part in which no line says anything.
-fn silent_kind(lines: &[&[u8]]) -> Kind
-    ensures { result ≡ spec.silent_kind (map (λ l. l.now) lines.now) }
+fn silent_kind(text: &[u8]) -> Kind
+    ensures { result ≡ spec.silent_kind (lines_in text.now) }
 {
-    match lines {
-        [] => Kind::NoClusterLine,
-        [first, ..] => {
-            if is_utf8(first) {
+    match next_line(text, 0) {
+        None => Kind::NoClusterLine,
+        Some((from, to, _)) => {
+            if is_utf8(&text[from..to]) {
                 Kind::NoClusterLine
             } else {
                 Kind::NotUtf8
@@ -151,13 +154,4 @@ fn end_kind(place: &Place) -> Option<Kind>
     } else {
         None
     }
-}
-
-fn last_line(first_line: u32, lines: &[&[u8]]) -> u32
-    requires short { length lines.now < 2 ^ 31 }
-    requires first { 1 ≤ first_line }
-    requires numbers { first_line ≤ 2 ^ 31 }
-    ensures { result ≡ first_line + length lines.now - 1 }
-{
-    first_line + lines.len() as u32 - 1
 }

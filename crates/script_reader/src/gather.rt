@@ -1,4 +1,4 @@
-// The lines of a file, and the names that they give.
+// The names that the lines of a file give.
 ghost use Rattle.std.specs.Prelude.{◌≡◌, [], ◌∷◌, ◌++◌, ◌≤◌, map, length, IfOk, OnOk};
 ghost use Rattle.byte_ends.specs.Text.{lines as lines_in, words as words_in};
 ghost use Rattle.script_reader.specs.Files.{begins_with, words_behind, numbered, listed, gather as gathered};
@@ -8,20 +8,6 @@ use byte_ends::{next_line, take_words};
 use script_words::{is_word, word_at};
 use std::alloc::Global;
 use unix_names::NoMemory;
-
-/// The lines of a text.
-pub fn lines_of<'a>(alloc: Global, text: &'a [u8]) -> Result<Vec<&'a [u8]>, NoMemory>
-    ensures lines { IfOk result (λ v. map (λ l. l.now) v.items ≡ lines_in text.now) }
-    ensures few { IfOk result (λ v. length v.items ≤ length text.now) }
-{
-    let mut lines = Vec::new(alloc);
-    let mut at = 0;
-    while let Some((from, to, next)) = next_line(text, at) {
-        lines.push(&text[from..to])?;
-        at = next;
-    }
-    Ok(lines)
-}
 
 /// Whether a line's first word is this one.
 #[tactic(auto, unfolding(crate::specs::Files::begins_with))]
@@ -69,20 +55,22 @@ fn list<'a>(numbers: &mut Numbers<'a>, words: &[&'a [u8]]) -> Result<(), NoMemor
     Ok(())
 }
 
-/// The names that the lines of a file give.
+/// The names that the lines of a text give.
 #[tactic(auto, unfolding(crate::specs::Files::gather))]
-pub fn gather<'a>(alloc: Global, lines: &[&'a [u8]]) -> Result<Names<'a>, NoMemory>
-    ensures { IfOk result (λ names. names ≡ gathered (map words_in (map (λ l. l.now) lines.now))) }
+pub fn gather<'a>(alloc: Global, text: &'a [u8]) -> Result<Names<'a>, NoMemory>
+    ensures { IfOk result (λ names. names ≡ gathered (map words_in (lines_in text.now))) }
 {
     let mut scripts = Vec::new(alloc);
     let mut forks = Vec::new(alloc);
     let mut starts = Vec::new(alloc);
     let mut words = Vec::new(alloc);
-    for line in lines {
-        take_words(&mut words, *line)?;
+    let mut at = 0;
+    while let Some((from, to, next)) = next_line(text, at) {
+        take_words(&mut words, &text[from..to])?;
         collect(&mut scripts, &words, "script", 1)?;
         collect(&mut forks, &words, "fork", 1)?;
         collect(&mut starts, &words, "start", 3)?;
+        at = next;
     }
     let mut variables = Numbers::new(alloc);
     list(&mut variables, &forks)?;

@@ -5,6 +5,7 @@ mod bodies;
 mod files;
 mod gather;
 mod lines;
+mod marks;
 mod names;
 mod places;
 mod starts;

@@ -1,45 +1,50 @@
-use Rattle.std.proofs.Common.{◌≡◌, ◌∷◌, ◌++◌, [], map, take, get_or, codes, refl, ap, ◌∙◌}
-use Rattle.std.proofs.lemmas.List.{take_all}
-use Rattle.byte_ends.specs.Text.{words}
+use Rattle.std.proofs.Common.{◌≡◌, ◌∷◌, ◌++◌, [], map, drop, codes, refl, ap, ◌∙◌, arith}
+use Rattle.std.specs.Prelude.{slice_range}
+use Rattle.byte_ends.specs.Text.{lines, words}
 use Rattle.script_words.specs.Words.{Row}
 use Rattle.script_reader.specs.Files.{words_behind, numbered, listed, gather}
-use Rattle.script_reader.proofs.Gathered.{words-more}
+use Rattle.script_reader.proofs.Gathered.{words-more, words-all}
 use Rattle.script_reader.proofs.gather.gather.Goals as goal
 
-pub loop-line-init : goal.loop-line-init
-unfolding words_behind
-loop-line-init c = record {
+pub loop-from-init : goal.loop-from-init
+loop-from-init c = record {
+  within = omega arith;
   scripts = rw c.new-scripts.ensures.items refl;
   forks = rw c.new-forks.ensures.items refl;
   starts = rw c.new-starts.ensures.items refl;
 }
 
-pub loop-line-preserved : goal.loop-line-preserved
-loop-line-preserved c =
-    let i = c.loop-line.line-index in
-    let lines = c.args.lines.now in
-    let line = (get_or lines i (record { ref_ptr = (0, 0); now = [] })).now in
-    let row : map (λ w. w.now) c.deref.result.now ≡ words line = ap (map (λ w. w.now)) c.deref.ensures.value ∙ c.in_ok-take_words.ensures.words in
-    let row' : map (λ w. w.now) c.deref-in-loop-line.result.now ≡ words line = ap (map (λ w. w.now)) c.deref-in-loop-line.ensures.value ∙ c.in_ok-take_words.ensures.words in
-    let row'' : map (λ w. w.now) c.deref-in-loop-line-2.result.now ≡ words line = ap (map (λ w. w.now)) c.deref-in-loop-line-2.ensures.value ∙ c.in_ok-take_words.ensures.words in
-    let scripts = map (λ w. w.now) c.loop-line.scripts.items in
-    let forks = map (λ w. w.now) c.loop-line.forks.items in
-    let starts = map (λ w. w.now) c.loop-line.starts.items in
+pub loop-from-preserved : goal.loop-from-preserved
+loop-from-preserved c =
+    let text = c.args.text.now in
+    let at = c.loop-from.at in
+    let next = c.in-Some.next in
+    let line = slice_range text c.in-Some.from c.in-Some.to in
+    let first : lines (drop at text) ≡ line ∷ lines (drop next text) = c.in-Some.ensures.line in
+    let taken : map (λ w. w.now) c.take_words.new.list.items ≡ words line = c.in_ok-take_words.ensures.words in
+    let row : map (λ w. w.now) c.deref.result.now ≡ words line = ap (map (λ w. w.now)) c.deref.ensures.value ∙ taken in
+    let row' : map (λ w. w.now) c.deref-in-Some.result.now ≡ words line = ap (map (λ w. w.now)) c.deref-in-Some.ensures.value ∙ taken in
+    let row'' : map (λ w. w.now) c.deref-in-Some-2.result.now ≡ words line = ap (map (λ w. w.now)) c.deref-in-Some-2.ensures.value ∙ taken in
+    let scripts = map (λ w. w.now) c.loop-from.scripts.items in
+    let forks = map (λ w. w.now) c.loop-from.forks.items in
+    let starts = map (λ w. w.now) c.loop-from.starts.items in
     record {
-      scripts = c.in_ok-collect.ensures ∙ ap (λ (r : Row). scripts ++ words_behind (codes "script") 1 (r ∷ [])) row ∙ words-more (codes "script") 1 lines i (record { ref_ptr = (0, 0); now = [] }) scripts c.loop-line-test.true c.loop-line.invariant.scripts;
-      forks = c.in_ok-collect-2.ensures ∙ ap (λ (r : Row). forks ++ words_behind (codes "fork") 1 (r ∷ [])) row' ∙ words-more (codes "fork") 1 lines i (record { ref_ptr = (0, 0); now = [] }) forks c.loop-line-test.true c.loop-line.invariant.forks;
-      starts = c.in_ok-collect-3.ensures ∙ ap (λ (r : Row). starts ++ words_behind (codes "start") 3 (r ∷ [])) row'' ∙ words-more (codes "start") 3 lines i (record { ref_ptr = (0, 0); now = [] }) starts c.loop-line-test.true c.loop-line.invariant.starts;
+      within = omega (arith, c.in-Some.ensures.order);
+      scripts = rw (c.in_ok-collect.ensures ∙ ap (λ (r : Row). scripts ++ words_behind (codes "script") 1 (r ∷ [])) row) (words-more (codes "script") 1 text at next line scripts (words_behind (codes "script") 1 (map words (lines text))) first c.loop-from.invariant.scripts);
+      forks = rw (c.in_ok-collect-2.ensures ∙ ap (λ (r : Row). forks ++ words_behind (codes "fork") 1 (r ∷ [])) row') (words-more (codes "fork") 1 text at next line forks (words_behind (codes "fork") 1 (map words (lines text))) first c.loop-from.invariant.forks);
+      starts = rw (c.in_ok-collect-3.ensures ∙ ap (λ (r : Row). starts ++ words_behind (codes "start") 3 (r ∷ [])) row'') (words-more (codes "start") 3 text at next line starts (words_behind (codes "start") 3 (map words (lines text))) first c.loop-from.invariant.starts);
     }
 
 pub returns : goal.returns
 unfolding gather
 returns c =
-    let lines = c.args.lines.now in
-    let rows = map words (map (λ l. l.now) lines) in
-    let all : take c.loop-line.line-index lines ≡ lines = take_all c.loop-line.line-index lines c.loop-line-test.false in
-    let scripts : map (λ w. w.now) c.loop-line.scripts.items ≡ words_behind (codes "script") 1 rows = rw all at c.loop-line.invariant.scripts in
-    let forks : map (λ w. w.now) c.loop-line.forks.items ≡ words_behind (codes "fork") 1 rows = rw all at c.loop-line.invariant.forks in
-    let starts : map (λ w. w.now) c.loop-line.starts.items ≡ words_behind (codes "start") 3 rows = rw all at c.loop-line.invariant.starts in
+    let text = c.args.text.now in
+    let at = c.loop-from.at in
+    let rows = map words (lines text) in
+    let end : at ≡ _ = c.in_default.ensures.none.0 refl in
+    let scripts : map (λ w. w.now) c.loop-from.scripts.items ≡ words_behind (codes "script") 1 rows = words-all (codes "script") 1 text at _ _ end c.loop-from.invariant.scripts in
+    let forks : map (λ w. w.now) c.loop-from.forks.items ≡ words_behind (codes "fork") 1 rows = words-all (codes "fork") 1 text at _ _ end c.loop-from.invariant.forks in
+    let starts : map (λ w. w.now) c.loop-from.starts.items ≡ words_behind (codes "start") 3 rows = words-all (codes "start") 3 text at _ _ end c.loop-from.invariant.starts in
     let forks' : map (λ w. w.now) c.deref-2.result.now ≡ words_behind (codes "fork") 1 rows = ap (map (λ w. w.now)) c.deref-2.ensures.value ∙ forks in
     let starts' : map (λ w. w.now) c.deref-3.result.now ≡ words_behind (codes "start") 3 rows = ap (map (λ w. w.now)) c.deref-3.ensures.value ∙ starts in
     let scripts'' : map (λ w. w.now) c.deref-4.result.now ≡ words_behind (codes "script") 1 rows = ap (map (λ w. w.now)) c.deref-4.ensures.value ∙ scripts in

@@ -8,17 +8,17 @@ use Rattle.script_reader.proofs.starts.Starts.add.Goals as goal
 
 pub returns-then-not-is_little-clause-bad : goal.returns-then-not-is_little-clause-bad
 returns-then-not-is_little-clause-bad c = λ fault e.
-    let sum : c.and-total.result ≡ total_work c.args.works.now (with_start c.args.self.now.list c.args.line) = c.and-total.ensures ∙ ap (together c.args.self.now.total) c.work_of.ensures ∙ total-with c.args.works.now c.args.self.now.list c.args.line c.args.self.now.total c.requires.total in
-    let same : fault_at c.args.number TooMuchWork ≡ fault = cc (e, c.bad.ensures) in
+    let sum : c.and-total.result ≡ total_work c.args.works.now (with_start c.args.self.now.list c.args.start.line) = c.and-total.ensures ∙ ap (together c.args.self.now.total) c.work_of.ensures ∙ total-with c.args.works.now c.args.self.now.list c.args.start.line c.args.self.now.total c.requires.total in
+    let same : fault_at c.args.start.number TooMuchWork ≡ fault = cc (e, c.bad.ensures) in
     (sym same, ap is_little (sym sum) ∙ sym c.is_little.ensures ∙ c.if-not-is_little.true)
 
 pub returns-clause-total : goal.returns-clause-total
 returns-clause-total c =
-    let sum : c.and-total.result ≡ total_work c.args.works.now (with_start c.args.self.now.list c.args.line) = c.and-total.ensures ∙ ap (together c.args.self.now.total) c.work_of.ensures ∙ total-with c.args.works.now c.args.self.now.list c.args.line c.args.self.now.total c.requires.total in
-    let pushed : c.push.new.self ≡ with_start c.args.self.now.list c.args.line = cc (c.in_ok-push.ensures.ok, c.start_of-start.ensures, c.as_slice.ensures) in
+    let sum : c.and-total.result ≡ total_work c.args.works.now (with_start c.args.self.now.list c.args.start.line) = c.and-total.ensures ∙ ap (together c.args.self.now.total) c.work_of.ensures ∙ total-with c.args.works.now c.args.self.now.list c.args.start.line c.args.self.now.total c.requires.total in
+    let pushed : c.push.new.self ≡ with_start c.args.self.now.list c.args.start.line = cc (c.in_ok-push.ensures.ok, c.start_of-next.ensures, c.as_slice.ensures) in
     sum ∙ ap (total_work c.args.works.now) (sym pushed)
 
 pub returns-clause-little : goal.returns-clause-little
 returns-clause-little c =
-    let sum : c.and-total.result ≡ total_work c.args.works.now (with_start c.args.self.now.list c.args.line) = c.and-total.ensures ∙ ap (together c.args.self.now.total) c.work_of.ensures ∙ total-with c.args.works.now c.args.self.now.list c.args.line c.args.self.now.total c.requires.total in
+    let sum : c.and-total.result ≡ total_work c.args.works.now (with_start c.args.self.now.list c.args.start.line) = c.and-total.ensures ∙ ap (together c.args.self.now.total) c.work_of.ensures ∙ total-with c.args.works.now c.args.self.now.list c.args.start.line c.args.self.now.total c.requires.total in
     ap is_little (sym sum) ∙ sym c.is_little.ensures ∙ c.if-not-is_little.false
