@@ -6,8 +6,6 @@ ghost use Rattle.audit_core.specs.Laws.{HasOneJudgement};
 mod judge;
 mod scripts;
 mod stamps;
-#[cfg(test)]
-mod tests;
 mod told;
 
 pub use judge::{Breach, Judged, audit};

@@ -7,8 +7,6 @@ pub mod laws;
 mod loose;
 mod reader;
 mod stamped;
-#[cfg(test)]
-mod tests;
 mod writer;
 
 pub use reader::{TextRefusal, read_history};

@@ -8,6 +8,3 @@ mod replies;
 pub use events::{first_event, first_event_of};
 pub use laws::{chosen_event, chosen_reply};
 pub use replies::reply_of;
-
-#[cfg(test)]
-mod tests;

@@ -6,6 +6,3 @@ mod verdict;
 
 pub use kernel::{Kernel, process_of};
 pub use verdict::{Rule, Verdict};
-
-#[cfg(test)]
-mod tests;

@@ -7,6 +7,3 @@ mod made;
 
 pub use limits::LARGEST_LOAD;
 pub use made::make;
-
-#[cfg(test)]
-mod tests;

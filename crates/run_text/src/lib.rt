@@ -3,7 +3,5 @@
 
 pub mod laws;
 mod schedule;
-#[cfg(test)]
-mod tests;
 
 pub use schedule::{MOST_TURNS, put_schedule, read_schedule, turns_in};

@@ -10,7 +10,5 @@ mod names;
 mod places;
 mod starts;
 mod statements;
-#[cfg(test)]
-mod tests;
 
 pub use files::read_file;

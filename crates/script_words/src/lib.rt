@@ -4,8 +4,6 @@
 mod faults;
 mod limits;
 mod table;
-#[cfg(test)]
-mod tests;
 mod words;
 mod writing;
 

@@ -3,7 +3,5 @@
 
 mod files;
 mod statements;
-#[cfg(test)]
-mod tests;
 
 pub use files::write_file;

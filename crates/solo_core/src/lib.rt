@@ -11,6 +11,3 @@ mod told;
 
 pub use outcome::Run;
 pub use replay::run;
-
-#[cfg(test)]
-mod tests;

@@ -1,4 +1,4 @@
-use crate::{
+use byte_ends::{
     LONGEST_INPUT, MemSink, MemSource, ReadEnd, StdEnd, WriteFault, next_line, number_at, read_all,
     words_of, write_all,
 };

@@ -1,5 +1,5 @@
 // One table: 2 has the children 3, which has ended, 4, which has stopped, and 5, which runs.
-use crate::{first_event, reply_of};
+use kernel_choice::{first_event, reply_of};
 use process_table::{ProcessTable, Row};
 use signal_state::Sig;
 use std::alloc::Global;

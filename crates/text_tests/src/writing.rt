@@ -1,4 +1,4 @@
-use crate::files::write_file;
+use script_writer::write_file;
 use file_parts::Span;
 use script_reader::read_file;
 use script_words::ReadRefusal;

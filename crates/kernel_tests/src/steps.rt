@@ -2,7 +2,7 @@
 ghost use Rattle.std.specs.Prelude.{IsTrue};
 ghost use Rattle.unix_calls.specs.Calls.{IsName, EntryHasNames};
 
-use crate::{Kernel, Rule, Verdict};
+use kernel_model::{Kernel, Rule, Verdict};
 use std::alloc::{AllocError, Global};
 use std::process::Abort;
 use std::test::Fail;

@@ -2,7 +2,7 @@
 ghost use Rattle.std.specs.Prelude.{IsTrue, All};
 ghost use Rattle.unix_calls.specs.Calls.{IsName, EntryHasNames};
 
-use crate::{Breach, Judged, audit};
+use audit_core::{Breach, Judged, audit};
 use std::alloc::{AllocError, Global};
 use std::process::Abort;
 use std::test::Fail;

@@ -1,6 +1,6 @@
 ghost use Rattle.std.specs.Prelude.{◌≡◌, length};
 
-use crate::{put_schedule, read_schedule};
+use run_text::{put_schedule, read_schedule};
 use file_parts::Span;
 use script_words::{Fault, Kind, ReadRefusal};
 use std::alloc::Global;

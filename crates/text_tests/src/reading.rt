@@ -1,4 +1,4 @@
-use crate::files::read_file;
+use script_reader::read_file;
 use file_parts::Span;
 use script_words::{Fault, Kind, ReadRefusal};
 use std::alloc::Global;

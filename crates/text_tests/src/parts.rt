@@ -1,4 +1,4 @@
-use crate::{Parts, Span, split};
+use file_parts::{Parts, Span, split};
 use std::test::Fail;
 
 fn span(from: usize, to: usize, first_line: u32) -> Span {

@@ -1,7 +1,7 @@
 // Lines that histories have and that have no meaning.
 ghost use Rattle.std.specs.Prelude.{◌≡◌, length};
 
-use crate::{Stamped, TextRefusal, put_history_two, read_history, read_history_two};
+use histories::{Stamped, TextRefusal, put_history_two, read_history, read_history_two};
 use file_parts::Span;
 use std::alloc::Global;
 use std::process::Abort;

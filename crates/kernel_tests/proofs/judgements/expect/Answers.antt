@@ -1,5 +1,5 @@
 use Rattle.std.proofs.Common.{rules}
-use Rattle.audit_core.proofs.tests.expect.Goals as goal
+use Rattle.kernel_tests.proofs.judgements.expect.Goals as goal
 
 pub audit-requires-clause-valid : goal.audit-requires-clause-valid
 audit-requires-clause-valid g c = c.is_valid.ensures.0 (search rules)

@@ -1,5 +1,5 @@
 // Whole histories of worlds on one node.
-use crate::run;
+use solo_core::run;
 use std::alloc::{AllocError, Global};
 use std::process::Abort;
 use std::test::Fail;
