@@ -54,7 +54,12 @@ fn read_part(alloc: Global, text: &[u8], first_line: u32) -> Result<World, ReadR
         return Err(bad(first_line, kind));
     }
     let works = works_of(alloc, read.scripts.as_slice())?;
-    let starts = judged(alloc, &works, read.marks.starts.as_slice(), read.marks.fault)?;
+    let starts = judged(
+        alloc,
+        &works,
+        read.marks.starts.as_slice(),
+        read.marks.fault,
+    )?;
     let vars = names.variables.len();
     match end_kind(&place) {
         Some(kind) => Err(bad(read.behind - 1, kind)),

@@ -45,7 +45,7 @@ impl Marks {
         ensures few { OnOk result (length self.new.starts ≤ length self.old.starts + 1) }
         ensures judged { OnOk result ((works : List Work) (earlier : List Start) (row : Row) (rest : List Told)
             → judged_with works earlier self.new.starts self.new.fault (number + 1) rest
-                ≡ judged_with works earlier self.old.starts self.old.fault number ((row, read.now) ∷ rest)) }
+            ≡ judged_with works earlier self.old.starts self.old.fault number ((row, read.now) ∷ rest)) }
     {
         if self.fault.is_some() {
             return Ok(());

@@ -42,7 +42,7 @@ loop-from-preserved c =
     let after : c.place_after-place.result ≡ place_after place (words line) (read_line names place line) = cc (c.place_after-place.ensures, row', told) in
     let taken : (rest : List Told) → scripts_with c.take_line.new.self rest ≡ scripts_with c.loop-from.bodies ((words line, read_line names place line) ∷ rest) = λ rest. c.in_ok-take_line.ensures rest ∙ rw (row, told) refl in
     let marked : (works : List Work) (r : Row) (rest : List Told) → judged_with works [] c.take_line-in-Some.new.self.starts c.take_line-in-Some.new.self.fault (number + 1) rest
-        ≡ judged_with works [] c.loop-from.marks.starts c.loop-from.marks.fault number ((r, read_line names place line) ∷ rest) = λ works r rest. rw told at (c.in_ok-take_line-2.ensures.judged works [] r rest) in
+    ≡ judged_with works [] c.loop-from.marks.starts c.loop-from.marks.fault number ((r, read_line names place line) ∷ rest) = λ works r rest. rw told at (c.in_ok-take_line-2.ensures.judged works [] r rest) in
     let size = ap length first in
     let more : at + 1 ≤ next = omega (arith, c.in-Some.ensures.order) in
     record {
