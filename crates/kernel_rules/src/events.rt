@@ -69,9 +69,7 @@ pub fn is_discarded(sig: &Sig, orphaned: bool, signal: Signal) -> bool
 pub fn stops(sig: &Sig, orphaned: bool, signal: Signal) -> bool
     ensures { result ≡ stops_in sig.now orphaned signal }
 {
-    acts_by_default(sig, signal)
-        && is_stop_signal(signal)
-        && (signal == Signal::Stop || !orphaned)
+    acts_by_default(sig, signal) && is_stop_signal(signal) && (signal == Signal::Stop || !orphaned)
 }
 
 fn ends(sig: &Sig, signal: Signal) -> bool

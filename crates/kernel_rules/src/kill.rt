@@ -77,7 +77,14 @@ pub fn kill_refusal(rows: &[Row], caller: &Row, target: Target, signal: u32) -> 
 }
 
 /// Generates a signal for the row at a place, if a kill reaches it.
-fn reach(table: &mut ProcessTable, at: usize, caller: &Row, target: Target, number: u32, signal: Signal)
+fn reach(
+    table: &mut ProcessTable,
+    at: usize,
+    caller: &Row,
+    target: Target,
+    number: u32,
+    signal: Signal,
+)
     requires { at < length table.old }
     ensures { (d : _) → table.new ≡ slice_set table.old at (receives (sent_by_kill caller.now target number (Some signal)) (slice_index_or table.old at d)) }
 {
@@ -87,7 +94,13 @@ fn reach(table: &mut ProcessTable, at: usize, caller: &Row, target: Target, numb
 }
 
 /// Generates a signal for each living row that a kill reaches.
-fn signal_targets(table: &mut ProcessTable, caller: &Row, target: Target, number: u32, signal: Signal)
+fn signal_targets(
+    table: &mut ProcessTable,
+    caller: &Row,
+    target: Target,
+    number: u32,
+    signal: Signal,
+)
     ensures { table.new ≡ received (sent_by_kill caller.now target number (Some signal)) table.old }
 {
     for at in 0..table.rows().len() {

@@ -3,4 +3,5 @@ pub mod ToldLaws
 pub mod MachineLaws
 pub mod FitLaws
 pub mod TurnLaws
+pub mod PlayLaws
 pub mod RunLaws
