@@ -20,11 +20,14 @@ use Rattle.histories.proofs.PartLaws.{means-or-fails}
 use Rattle.cluster_cli.specs.declared.status.Status.{Status}
 use Rattle.cluster_cli.specs.declared.status.Status.TheVariants.{Done, BadFile, Illegal}
 use Rattle.cluster_cli.specs.declared.input.Given.{Given}
+use Rattle.cluster_cli.specs.declared.answers.Answer.{Answer}
+use Rattle.unix_names.specs.declared.NoMemory.{NoMemory}
+use Rattle.std.specs.Prelude.{IfOk}
 use Rattle.cluster_cli.specs.Ends.{HasText}
 use Rattle.cluster_cli.specs.Found.{meaning, runnable}
-use Rattle.cluster_cli.specs.Input.{fault_text}
+use Rattle.cluster_cli.specs.Input.{Means, fault_text}
 use Rattle.cluster_cli.specs.Replay.{run_text, Replays}
-use Rattle.cluster_cli.specs.Audit.{HasHistory, HasBadLine, verdict_status, IsVerdict, Audits}
+use Rattle.cluster_cli.specs.Audit.{HasHistory, HasBadLine, verdict_status, IsVerdict, Judges, Audits}
 use Rattle.cluster_cli.specs.Laws.{HasOneAnswer}
 use Rattle.cluster_cli.proofs.Meanings.{means_read, fault_told, run_read, refused_told}
 
@@ -113,3 +116,17 @@ audit_outcome s input text h = absurd h
 
 pub one_audit : HasOneAnswer Audits
 one_audit input text text' s s' a b = one_outcome input (meaning input) text text' s s' (audit_outcome s input text a) (audit_outcome s' input text' b)
+
+-- ---- what is said of a history is an answer
+judged_audits : (s : Status) (input text : List ℕ) → Judges s input text → Audits s input text
+judged_audits s input text h = go h.verdict.judged h.verdict.told
+  where
+    go : (j : Judged) → s ≡ verdict_status j → Audits s input text
+    go judged.Legal e = subst (λ (x : Status). Audits x input text) (sym e) (subst (λ (x : Status). Judges x input text) e h)
+    go (judged.IllegalAt number rule) e = subst (λ (x : Status). Audits x input text) (sym e) (inl (subst (λ (x : Status). Judges x input text) e h))
+
+pub heard_text : (r : Result Answer NoMemory) (input : List ℕ) (given : Given) (entries : List Entry) → Means input given → HasHistory (history_lines (lines input)) entries
+    → IfOk r (λ a. IsVerdict given.world entries a.status a.text.items) → IfOk r (λ a. Audits a.status input a.text.items)
+heard_text (Ok a) input given entries means history verdict =
+    judged_audits a.status input a.text.items (record { given = given; entries = entries; reads = means; history = history; verdict = verdict })
+heard_text (Err e) input given entries means history verdict = tt

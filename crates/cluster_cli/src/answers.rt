@@ -7,6 +7,7 @@ ghost use Rattle.cluster_cli.specs.Input.{fault_line, Means};
 ghost use Rattle.cluster_cli.specs.Replay.{run_text, Replays};
 ghost use Rattle.cluster_cli.specs.Reading.{AreParts};
 ghost use Rattle.cluster_cli.specs.Audit.{HasHistory, HasBadLine, verdict_status, IsVerdict, Audits};
+ghost use Rattle.audit_core.specs.Told.{judged_text};
 ghost use Rattle.histories.specs.Told.{refusal_text};
 ghost use Rattle.byte_ends.specs.Text.{lines};
 ghost use Rattle.file_parts.specs.Parts.{IsPartOf, front_lines, history_lines};
@@ -113,7 +114,6 @@ fn heard(alloc: Global, input: &[u8], parts: &Parts, given: &Given) -> Result<An
 }
 
 // The verdict on a history.
-#[tactic(auto, using(crate::proofs::Single::said))]
 fn judged(alloc: Global, world: &World, entries: &[Entry]) -> Result<Answer, NoMemory>
     requires valid { IsValid world.now }
     requires names { All EntryHasNames entries.now }
@@ -121,12 +121,17 @@ fn judged(alloc: Global, world: &World, entries: &[Entry]) -> Result<Answer, NoM
     ensures verdict { IfOk result (λ a. IsVerdict world.now entries.now a.status a.text.items) }
 {
     let judged = judge(alloc, world, entries)?;
+    let text = verdict_text(alloc, judged)?;
+    let status = status_of(judged);
+    Ok(Answer { status, text })
+}
+
+fn verdict_text(alloc: Global, judged: Judged) -> Result<Vec<u8>, AllocError>
+    ensures { IfOk result (λ text. text.items ≡ judged_text judged ++ codes "\n") }
+{
     let mut text = String::new(alloc);
     writeln!(text, "{judged}")?;
-    Ok(Answer {
-        status: status_of(judged),
-        text: text.into_bytes(),
-    })
+    Ok(text.into_bytes())
 }
 
 fn status_of(judged: Judged) -> Status
@@ -156,10 +161,17 @@ fn bad_line(alloc: Global, refusal: TextRefusal) -> Result<Answer, NoMemory>
     ensures illegal { IfOk result (λ a. a.status ≡ Status.Illegal) }
     ensures text { IfOk result (λ a. a.text.items ≡ refusal_text refusal ++ codes "\n") }
 {
-    let mut text = String::new(alloc);
-    writeln!(text, "{refusal}")?;
+    let text = refusal_text(alloc, refusal)?;
     Ok(Answer {
         status: Status::Illegal,
-        text: text.into_bytes(),
+        text,
     })
+}
+
+fn refusal_text(alloc: Global, refusal: TextRefusal) -> Result<Vec<u8>, AllocError>
+    ensures { IfOk result (λ text. text.items ≡ refusal_text refusal ++ codes "\n") }
+{
+    let mut text = String::new(alloc);
+    writeln!(text, "{refusal}")?;
+    Ok(text.into_bytes())
 }

@@ -17,7 +17,8 @@ const FORGED: &str =
 const MISSPELT: &str = "cluster 1\nscript a\nend\nstart 0 a p\nhistory\n2 exti 0\n";
 
 // The child's number is 2^32 + 3, which no process has.
-const LARGE_CHILD: &str = "cluster 1\nscript a\nend\nscript b\nfork c a\nend\nstart 0 b p\nhistory\n2 fork = 4294967299\n";
+const LARGE_CHILD: &str =
+    "cluster 1\nscript a\nend\nscript b\nfork c a\nend\nstart 0 b p\nhistory\n2 fork = 4294967299\n";
 
 // A parent is told the low eight bits of a status.
 const LARGE_STATUS: &str =

@@ -8,3 +8,4 @@ pub mod Solid
 pub mod WrittenLaws
 pub mod Numerals
 pub mod Stamps
+pub mod TwoMeanings

@@ -5,7 +5,9 @@ ghost use Rattle.unix_calls.specs.Calls.{IsEntry};
 ghost use Rattle.byte_ends.specs.Text.{lines};
 ghost use Rattle.histories.specs.History.{text};
 ghost use Rattle.histories.specs.Reading.{Fits, Means, IsHistory};
+ghost use Rattle.histories.specs.declared.stamped.Stamped.{Stamped};
 ghost use Rattle.histories.specs.Laws.{MeansOrFails};
+ghost use Rattle.histories.specs.Stamped.{MeansStamped};
 
 /// A line means one entry at most.
 pub fn one_meaning()
@@ -20,4 +22,14 @@ pub fn histories_read_back()
 /// A part is a history of one list of entries, or has one first bad line, and never both.
 pub fn part_means_or_fails()
     ensures { MeansOrFails Means }
+{}
+
+/// A line means one stamped entry at most.
+pub fn one_stamped_meaning()
+    ensures { (line : List ℕ) (s t : Stamped) → MeansStamped line s → MeansStamped line t → s ≡ t }
+{}
+
+/// The lines behind `format 2` are a history of one list of stamped entries, or have one first bad line, and never both.
+pub fn stamped_part_means_or_fails()
+    ensures { MeansOrFails MeansStamped }
 {}

@@ -226,7 +226,8 @@ fn reads_events(rt: HostRuntime) -> Result<(), Fail> {
     Ok(())
 }
 
-const FORMAT_TWO: &[u8] = b"format 2\n1 0 2 fork = 1000002\n18446744073709551615 7 2 exit 0\nquiet\n";
+const FORMAT_TWO: &[u8] =
+    b"format 2\n1 0 2 fork = 1000002\n18446744073709551615 7 2 exit 0\nquiet\n";
 
 fn two_stamped() -> [Stamped; 2] {
     [
