@@ -113,9 +113,22 @@ impl<C: Drop> Slots<C> {
         }
     }
 
-    /// Puts the record of a new process at home, under its id.
+    /// Brings a record back as `put` does. Where it is at home already, this one takes its place; that alone may need memory.
+    pub fn lay(&mut self, name: Name, held: Held) -> Result<PutBack<C>, NoMemory>
+        ensures answer { IfOk result (λ answer. let line = line_of (slot_at self.old name) in answer ≡ put_back line.is_marked line.waiters (of_kind name held)) }
+        ensures after { OnOk result (let line = line_of (slot_at self.old name) in self.new ≡ with_slot self.old name (given line.is_marked line.waiters held)) }
+        ensures err { OnErr result (self.new ≡ self.old) }
+        ensures others { OnOk result (SameElsewhere name self.old self.new) }
+    {
+        if self.is_out(name) {
+            return Ok(self.put(name, held));
+        }
+        self.swap(name, Slot::Home(held))?;
+        Ok(PutBack::Rests { nudged: false })
+    }
+
+    /// Puts the record of a new process at home, under its id, whatever stood there.
     pub fn create(&mut self, vproc: Vproc) -> Result<(), NoMemory>
-        requires { slot_at self.old (process vproc.pid) ≡ resting None }
         ensures ok { OnOk result (self.new ≡ with_slot self.old (process vproc.pid) (resting (Some vproc))) }
         ensures rests { OnOk result (slot_at self.new (process vproc.pid) ≡ resting (Some vproc)) }
         ensures err { OnErr result (self.new ≡ self.old) }
