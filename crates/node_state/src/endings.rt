@@ -2,6 +2,7 @@
 ghost use Rattle.std.specs.Prelude.{◌≡◌, OnOk, IfOk};
 ghost use Rattle.unix_calls.specs.Valid.{IsValid};
 ghost use Rattle.proc_image.specs.Images.{IsFit};
+ghost use Rattle.node_state.specs.Endings.{place_in};
 
 use crate::images::{child_of, image_after};
 use crate::state::State;
@@ -21,7 +22,7 @@ fn place_in(bag: &Bag, pid: Pid) -> Option<NodeId>
 }
 
 impl State {
-    ghost use Rattle.node_state.specs.Endings.{with_born, place_in, settled, child_placed, finished};
+    ghost use Rattle.node_state.specs.Endings.{with_born, settled, child_placed, finished};
 
     // The record of a process that was born comes to its home.
     fn bear(&mut self, born: Option<Vproc>) -> Result<(), NoMemory>

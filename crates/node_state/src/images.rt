@@ -40,7 +40,7 @@ fn asleep_if(sleeps: bool, phase: Phase) -> Phase
 /// The caller's image after a decision.
 pub fn image_after(
     world: &World,
-    mut image: Image,
+    image: Image,
     own: Own,
     phase: Phase,
     entry: Option<Entry>,
@@ -49,13 +49,14 @@ pub fn image_after(
     requires fits { IsFit world.now image }
     ensures { result ≡ image_after world.now image own phase entry }
 {
-    image.phase = phase;
+    let mut next = image;
+    next.phase = phase;
     if let Some(Entry::Called { reply, .. }) = entry {
-        image.phase = asleep_if(image.stands_again(world, reply), phase);
-        image.after(world, reply);
+        next.phase = asleep_if(next.stands_again(world, reply), phase);
+        next.after(world, reply);
     }
-    image.own = own;
-    image
+    next.own = own;
+    next
 }
 
 /// The image of the process that was born, where the caller's next statement is a fork.

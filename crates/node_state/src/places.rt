@@ -27,6 +27,7 @@ impl State {
         self.ready.push(waiting)
     }
 
+    #[tactic(auto, using(ordered_table::proofs::AbsentLaws::absent_laws))]
     /// Tells a process at its place that it may go on. A parked image joins the end of the queue, one that stands there stays, and of one that is not here the process is marked.
     pub fn poke(&mut self, pid: Pid) -> Result<(), NoMemory>
         ensures { OnOk result (self.new ≡ poked self.old pid) }
@@ -51,6 +52,7 @@ impl State {
         }
     }
 
+    #[tactic(auto, using(ordered_table::proofs::AbsentLaws::absent_laws))]
     /// An image comes to stand here. That of a process that was marked goes on.
     pub fn place(&mut self, image: Image) -> Result<(), NoMemory>
         ensures { OnOk result (self.new ≡ placed self.old image) }

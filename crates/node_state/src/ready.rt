@@ -126,6 +126,7 @@ fn take_movable(
     ensures counted { IsCounted counts.new (passed.new ++ others.new) }
     ensures first { IfOk result (λ image. image ≡ first_movable (passed.old ++ others.old)) }
     ensures rest { OnOk result (passed.new ++ others.new ≡ without_movable (passed.old ++ others.old)) }
+    ensures nobody { IfOk result (λ image. image ≡ None → passed.new ++ others.new ≡ passed.old ++ others.old) }
 {
     while let Some(waiting) = others.pop() {
         match waiting {
@@ -140,6 +141,20 @@ fn take_movable(
         }
     }
     Ok(None)
+}
+
+/// The first of the two parts leaves.
+fn pop_first(passed: &mut Queue<Waiting>, others: &mut Queue<Waiting>) -> Option<Waiting>
+    requires { first_movable passed.old ≡ None }
+    ensures passed { first_movable passed.new ≡ None }
+    ensures some { IfSome result (λ w. passed.old ++ others.old ≡ w ∷ (passed.new ++ others.new)) }
+    ensures none { IfNone result (passed.old ++ others.old ≡ []) }
+    ensures none_new { IfNone result (passed.new ++ others.new ≡ []) }
+{
+    match passed.pop() {
+        Some(waiting) => Some(waiting),
+        None => others.pop(),
+    }
 }
 
 impl ReadyQueue {
@@ -183,10 +198,7 @@ impl ReadyQueue {
         ensures none { IfNone result (self.old ≡ []) }
         ensures none_new { IfNone result (self.new ≡ []) }
     {
-        let waiting = match self.passed.pop() {
-            Some(waiting) => waiting,
-            None => self.others.pop()?,
-        };
+        let waiting = pop_first(&mut self.passed, &mut self.others)?;
         leave(&mut self.counts, &waiting);
         Some(waiting)
     }
@@ -195,6 +207,7 @@ impl ReadyQueue {
     pub fn take_movable(&mut self) -> Result<Option<Image>, NoMemory>
         ensures first { IfOk result (λ image. image ≡ first_movable self.old) }
         ensures rest { OnOk result (self.new ≡ without_movable self.old) }
+        ensures nobody { IfOk result (λ image. image ≡ None → self.new ≡ self.old) }
     {
         take_movable(&mut self.passed, &mut self.others, &mut self.counts)
     }

@@ -1,5 +1,5 @@
 // The state of a node.
-ghost use Rattle.std.specs.Prelude.{◌≡◌, OnOk};
+ghost use Rattle.std.specs.Prelude.{◌≡◌, ◌+◌, slice_index, slice_set, OnOk, IfOk};
 
 use crate::ready::ReadyQueue;
 use courier_core::{Courier, Message};
@@ -41,6 +41,23 @@ pub struct State {
     pub out: Seq<Sent>,
 }
 
+/// One more message of a wire is counted. Gives its number.
+#[tactic(auto, using(crate::proofs::WireLaws::wire_laws))]
+fn count_up(numbers: &mut Seq<u64>, at: u32) -> Result<u64, NoMemory>
+    ensures number { IfOk result (λ number. number ≡ slice_index numbers.old at) }
+    ensures counted { OnOk result (numbers.new ≡ slice_set numbers.old at (slice_index numbers.old at + 1)) }
+{
+    let at = at as usize;
+    let number = numbers.get(at).copied().unwrap_or(0);
+    let Some(next) = number.checked_add(1) else {
+        return Err(NoMemory);
+    };
+    if at < numbers.len() {
+        numbers.replace(at, next);
+    }
+    Ok(number)
+}
+
 impl State {
     ghost use Rattle.node_state.specs.Wires.{posted, one_taken};
 
@@ -48,14 +65,7 @@ impl State {
     pub fn post(&mut self, to: u32, message: Message) -> Result<(), NoMemory>
         ensures { OnOk result (self.new ≡ posted self.old to message) }
     {
-        let at = to as usize;
-        let number = self.sent.get(at).copied().unwrap_or(0);
-        let Some(next) = number.checked_add(1) else {
-            return Err(NoMemory);
-        };
-        if at < self.sent.len() {
-            self.sent.replace(at, next);
-        }
+        let number = count_up(&mut self.sent, to)?;
         self.out.push(Sent {
             to,
             number,
@@ -68,14 +78,7 @@ impl State {
     pub fn count_taken(&mut self, from: u32) -> Result<(), NoMemory>
         ensures { OnOk result (self.new ≡ one_taken self.old from) }
     {
-        let at = from as usize;
-        let Some(number) = self.taken.get(at).copied() else {
-            return Ok(());
-        };
-        let Some(next) = number.checked_add(1) else {
-            return Err(NoMemory);
-        };
-        self.taken.replace(at, next);
+        count_up(&mut self.taken, from)?;
         Ok(())
     }
 }

@@ -1,0 +1,3 @@
+pub mod Universe
+pub mod Nearer
+pub mod AdvanceLaws

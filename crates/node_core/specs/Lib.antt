@@ -1,0 +1,5 @@
+pub mod Advance
+pub mod Turns
+pub mod Conditions
+pub mod Views
+pub mod First
