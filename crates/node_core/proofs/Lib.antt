@@ -1,3 +1,5 @@
 pub mod Universe
 pub mod Nearer
 pub mod AdvanceLaws
+pub mod ErrandLaws
+pub mod FirstLaws

@@ -17,7 +17,7 @@ use Rattle.record_table.specs.Slots.{with_slot}
 use Rattle.courier_core.specs.declared.Courier.{Courier}
 use Rattle.node_state.specs.declared.Waiting.TheVariants as waiting
 use Rattle.node_state.specs.declared.State.{State}
-use Rattle.node_core.specs.declared.first.Led.{Led}
+use Rattle.node_core.specs.declared.led.Led.{Led}
 
 -- a start leads its own group and session, or has those of the start that it joins
 abbrev pub leader_with : Start → Option Led → Pid

@@ -1,9 +1,11 @@
 // The state of a node before the first turn.
-ghost use Rattle.std.specs.Prelude.{◌≡◌, ◌≤◌, ◌+◌, filter, map, length, replicate, IfOk, OnOk};
+ghost use Rattle.std.specs.Prelude.{◌≡◌, ◌≤◌, [], filter, map, length, IfOk, OnOk};
 ghost use Rattle.unix_calls.specs.Valid.{IsValid, starts_at};
 ghost use Rattle.node_state.specs.declared.Waiting.TheVariants.{Image as AnImage};
 ghost use Rattle.proc_image.specs.Images.{start_image};
+ghost use Rattle.node_core.specs.First.{led_by, led_starts, first_vproc, first_group, with_first, first_slots, is_at, first_state};
 
+use crate::led::Led;
 use courier_core::Courier;
 use group_record::{Group, Member};
 use node_state::{ReadyQueue, State, Waiting};
@@ -15,15 +17,6 @@ use std::alloc::Global;
 use unix_calls::{Start, World};
 use unix_names::{Life, Name, NoMemory, NodeId, Pid, SYSTEM, Seq};
 use vproc_record::{Children, Vproc};
-
-/// A start, and who leads its group and session.
-#[derive(Clone, Copy, Debug, PartialEq, Eq)]
-pub struct Led {
-    pub start: Start,
-    pub leader: Pid,
-}
-
-ghost use Rattle.node_core.specs.First.{led_by, all_led, led_starts, first_vproc, first_member, has_leader, first_group, with_first_group, with_first, first_slots, is_at, first_state};
 
 fn led_by(earlier: &[Led], start: Start) -> Led
     ensures { result ≡ led_by earlier.now start }
@@ -89,12 +82,6 @@ fn first_group(alloc: Global, all: &[Led], leader: Pid) -> Result<Group, NoMemor
         links: 0,
         stopped: 0,
     })
-}
-
-fn rest(slots: &mut Slots<Courier>, name: Name, held: Held) -> Result<(), NoMemory>
-    ensures { OnOk result (slots.new ≡ with_slot slots.old name (Home held)) }
-{
-    slots.rest(name, held)
 }
 
 /// The record of a start of a node comes to its home, and that of the group that it leads.

@@ -1,11 +1,11 @@
 //! One node: turns over any vector of decisions.
 #![tactic(auto)]
 
+mod first;
+mod led;
 mod node;
 mod refusal;
 mod step;
-#[cfg(test)]
-mod tests;
 mod turns;
 
 pub use node::{Node, StepOut};

@@ -1,8 +1,12 @@
 // A node that others see.
 ghost use Rattle.std.specs.Prelude.{◌≡◌, ◌↔◌, ◌⊎◌, ℕ, Err, [], slice_index, true, false, IsTrue, IfOk, IfErr, OnOk};
+ghost use Rattle.unix_calls.specs.Valid.{IsValid};
+ghost use Rattle.node_core.specs.Advance.{is_advanced};
+ghost use Rattle.node_core.specs.Conditions.{CanSetOut};
 ghost use Rattle.node_state.specs.Wires.{one_taken, sent_off};
-ghost use Rattle.node_core.specs.Turns.{led, going, pushed, came};
+ghost use Rattle.node_core.specs.Turns.{led, going, pushed, arriving, came};
 
+use crate::first::first_state;
 use crate::refusal::{GoRefusal, TakeRefusal};
 use crate::turns::{come, go, push};
 use courier_core::Message;
@@ -65,7 +69,23 @@ fn take_next<O: OpVector>(
 }
 
 impl<O: OpVector> Node<O> {
+    ghost use Rattle.node_core.specs.First.{first_state};
     ghost use Rattle.node_core.specs.Views.{IsTurned, CanGo, CanPush, CanTake, GoRefuses, PushRefuses, TakeRefuses};
+
+    /// A node before the first turn: its own starts are ready, and their records are at home.
+    pub fn new(alloc: Global, ops: O, world: &World, id: NodeId) -> Result<Node<O>, NoMemory>
+        requires { IsValid world.now }
+        ensures ops { IfOk result (λ node. node.ops ≡ ops) }
+        ensures state { IfOk result (λ node. node.state ≡ first_state world.now id.0) }
+        ensures running { IfOk result (λ node. node.has_failed ≡ false) }
+    {
+        let state = first_state(alloc, world, id)?;
+        Ok(Node {
+            ops,
+            state,
+            has_failed: false,
+        })
+    }
 
     /// The first of the ready queue has its turn. Idle exactly where nobody stands there.
     pub fn go(&mut self, alloc: Global, world: &World) -> Result<StepOut, GoRefusal>

@@ -4,7 +4,7 @@ ghost use Rattle.unix_calls.specs.Valid.{IsValid};
 ghost use Rattle.proc_image.specs.Images.{IsFit};
 ghost use Rattle.node_state.specs.Endings.{place_in};
 
-use crate::images::{child_of, image_after};
+use crate::images::{child_of, move_on};
 use crate::state::State;
 use courier_core::Message;
 use proc_image::Image;
@@ -67,7 +67,7 @@ impl State {
         &mut self,
         alloc: Global,
         world: &World,
-        image: Image,
+        mut image: Image,
         bag: Bag,
         done: Decided,
     ) -> Result<Option<Entry>, NoMemory>
@@ -80,10 +80,8 @@ impl State {
         let place = place_in(&bag, image.pid);
         self.bear(done.born)?;
         self.give_back_all(bag)?;
-        self.settle(
-            place,
-            image_after(world, image, done.own, done.phase, done.entry),
-        )?;
+        move_on(world, &mut image, done.own, done.phase, &done.entry);
+        self.settle(place, image)?;
         self.place_child(child)?;
         self.nudge_all(done.nudges.as_slice())?;
         Ok(done.entry)

@@ -2,7 +2,7 @@
 ghost use Rattle.std.specs.Prelude.{◌≡◌, IfOk};
 ghost use Rattle.unix_calls.specs.Valid.{IsValid};
 ghost use Rattle.proc_image.specs.Images.{IsFit};
-ghost use Rattle.node_state.specs.Phases.{woken_phase, woken, asleep_if, image_after, child_of};
+ghost use Rattle.node_state.specs.Phases.{woken_phase, woken, asleep_if, phase_after, image_by, image_after, child_of};
 
 use proc_image::Image;
 use signal_state::Own;
@@ -37,26 +37,39 @@ fn asleep_if(sleeps: bool, phase: Phase) -> Phase
     }
 }
 
-/// The caller's image after a decision.
-pub fn image_after(
-    world: &World,
-    image: Image,
-    own: Own,
-    phase: Phase,
-    entry: Option<Entry>,
-) -> Image
-    requires valid { IsValid world.now }
-    requires fits { IsFit world.now image }
-    ensures { result ≡ image_after world.now image own phase entry }
+fn phase_after(world: &World, image: &Image, phase: Phase, entry: &Entry) -> Phase
+    ensures { result ≡ phase_after world.now image.now phase entry.now }
 {
-    let mut next = image;
-    next.phase = phase;
-    if let Some(Entry::Called { reply, .. }) = entry {
-        next.phase = asleep_if(next.stands_again(world, reply), phase);
-        next.after(world, reply);
+    match entry {
+        Entry::Called { reply, .. } => asleep_if(image.stands_again(world, *reply), phase),
+        Entry::Happened { .. } => phase,
     }
-    next.own = own;
-    next
+}
+
+/// Moves the caller's image on by the line of the history.
+fn advance(world: &World, image: &mut Image, phase: Phase, entry: &Entry)
+    requires valid { IsValid world.now }
+    requires fits { IsFit world.now image.old }
+    ensures { image.new ≡ record (image_by world.now image.old entry.now) { phase = phase_after world.now image.old phase entry.now } }
+{
+    let next = phase_after(world, image, phase, entry);
+    if let Entry::Called { reply, .. } = entry {
+        image.after(world, *reply);
+    }
+    image.phase = next;
+}
+
+/// Moves the caller's image on after a decision.
+pub fn move_on(world: &World, image: &mut Image, own: Own, phase: Phase, entry: &Option<Entry>)
+    requires valid { IsValid world.now }
+    requires fits { IsFit world.now image.old }
+    ensures { image.new ≡ image_after world.now image.old own phase entry.now }
+{
+    match entry {
+        Some(entry) => advance(world, image, phase, entry),
+        None => image.phase = phase,
+    }
+    image.own = own;
 }
 
 /// The image of the process that was born, where the caller's next statement is a fork.

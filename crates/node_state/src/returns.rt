@@ -38,7 +38,11 @@ impl State {
     pub fn home_of(&self, name: Name) -> u32
         ensures { result ≡ home name self.now.nodes }
     {
-        if self.nodes == 0 { 0 } else { home_of(name, self.nodes).0 }
+        if self.nodes == 0 {
+            0
+        } else {
+            home_of(name, self.nodes).0
+        }
     }
 
     /// Tells a process where it is that it may go on.

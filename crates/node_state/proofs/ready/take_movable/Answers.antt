@@ -56,3 +56,7 @@ pub returns-in_err-join-in-Courier-clause-counted :
 returns-in_err-join-in-Courier-clause-counted c =
     let e = c.in-Some.ensures.some ∙ ap (λ w. w ∷ c.pop.new.self) c.in-Courier.is in
     lost-counted c.loop-waiting.passed c.loop-waiting.others c.pop.new.self c.join-in-Courier.new.queue c.loop-waiting.counts c.join-in-Courier.new.counts (waiting.Courier c.in-Courier.courier) e c.in_err-join-in-Courier.ensures.err c.in_err-join-in-Courier.ensures.uncounted c.loop-waiting.invariant.counted
+
+pub returns-clause-rest : goal.returns-clause-rest
+returns-clause-rest c =
+    nobody-leaves c.loop-waiting.passed c.loop-waiting.others c.pop.new.self c.loop-waiting.invariant.passed c.in_default.ensures.none c.in_default.ensures.none_new ∙ ap without_movable c.loop-waiting.invariant.queue
