@@ -3,3 +3,5 @@ pub mod Nearer
 pub mod AdvanceLaws
 pub mod ErrandLaws
 pub mod FirstLaws
+pub mod WantLaws
+pub mod TurnLaws

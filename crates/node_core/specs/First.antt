@@ -1,5 +1,5 @@
 -- the state of a node before the first turn
-use Rattle.std.specs.Prelude.{ℕ, Bool, true, false, ◌+◌, ◌==◌, List, [], ◌∷◌, ◌++◌, map, filter, replicate, slice_get, Option, None, Some, option_and_then, if◌then◌else◌}
+use Rattle.std.specs.Prelude.{ℕ, Bool, true, false, ◌+◌, ◌==◌, List, [], ◌∷◌, ◌++◌, map, filter, drop, replicate, slice_get, Option, None, Some, option_and_then, if◌then◌else◌}
 use Rattle.unix_names.specs.declared.Pid.{Pid}
 use Rattle.unix_names.specs.declared.Name.TheVariants as name
 use Rattle.unix_names.specs.declared.Life.TheVariants.{Runs}
@@ -15,6 +15,7 @@ use Rattle.record_table.specs.declared.Slot.TheVariants.{Home}
 use Rattle.record_table.specs.declared.Slots.{Slots}
 use Rattle.record_table.specs.Slots.{with_slot}
 use Rattle.courier_core.specs.declared.Courier.{Courier}
+use Rattle.node_state.specs.declared.Waiting.{Waiting}
 use Rattle.node_state.specs.declared.Waiting.TheVariants as waiting
 use Rattle.node_state.specs.declared.State.{State}
 use Rattle.node_core.specs.declared.led.Led.{Led}
@@ -76,13 +77,17 @@ abbrev pub first_slots : ℕ → List Led → Slots Courier → List Led → Slo
 first_slots k all slots [] = slots
 first_slots k all slots (led ∷ rest) = first_slots k all (with_first k all slots led) rest
 
+-- the images of the starts of node k, from the i-th start on
+abbrev pub ready_from : World → ℕ → ℕ → List Waiting
+ready_from world k i = map (λ start. waiting.Image (start_image world start)) (filter (is_at k) (drop i world.starts))
+
 -- node k before the first turn: its own starts are ready, in their order, and the next process id comes after theirs
 abbrev pub first_state : World → ℕ → State
 first_state world k = record {
   id = k;
   nodes = world.nodes;
   slots = first_slots k (led_starts world) (record { vprocs = []; groups = [] }) (led_starts world);
-  ready = map (λ start. waiting.Image (start_image world start)) (filter (is_at k) world.starts);
+  ready = ready_from world k 0;
   parked = [];
   marks = [];
   serial = 2 + starts_at (record { 0 = k }) world.starts;

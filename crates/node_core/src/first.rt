@@ -1,9 +1,8 @@
 // The state of a node before the first turn.
-ghost use Rattle.std.specs.Prelude.{◌≡◌, ◌≤◌, [], filter, map, length, IfOk, OnOk};
+ghost use Rattle.std.specs.Prelude.{◌≡◌, ◌≤◌, ◌<◌, ◌+◌, ◌++◌, [], false, length, slice_get, IfOk, OnOk};
 ghost use Rattle.unix_calls.specs.Valid.{IsValid, starts_at};
-ghost use Rattle.node_state.specs.declared.Waiting.TheVariants.{Image as AnImage};
-ghost use Rattle.proc_image.specs.Images.{start_image};
-ghost use Rattle.node_core.specs.First.{led_by, led_starts, first_vproc, first_group, with_first, first_slots, is_at, first_state};
+ghost use Rattle.std.specs.Option.{option_map_or};
+ghost use Rattle.node_core.specs.First.{led_by, led_starts, first_vproc, first_group, with_first, first_slots, is_at, ready_from, first_state};
 
 use crate::led::Led;
 use courier_core::Courier;
@@ -115,17 +114,43 @@ fn first_slots(alloc: Global, id: u32, all: &[Led]) -> Result<Slots<Courier>, No
     Ok(slots)
 }
 
+/// The image of a start joins the queue, if the start is one of this node.
+fn add_start(
+    alloc: Global,
+    world: &World,
+    id: u32,
+    k: usize,
+    ready: &mut ReadyQueue,
+) -> Result<(), NoMemory>
+    requires valid { IsValid world.now }
+    requires start { k < length world.now.starts }
+    ensures { OnOk result (ready.new ++ ready_from world.now id (k + 1) ≡ ready.old ++ ready_from world.now id k) }
+{
+    let image = Image::start(alloc, world, k)?;
+    if !is_at(world, id, k) {
+        return Ok(());
+    }
+    ready.push(Waiting::Image(image))
+}
+
+/// Whether a start is one of a node.
+fn is_at(world: &World, id: u32, k: usize) -> bool
+    ensures { result ≡ option_map_or (is_at id) (slice_get world.now.starts k) false }
+{
+    match world.starts.get(k) {
+        Some(start) => start.node.0 == id,
+        None => false,
+    }
+}
+
 /// The images of a node's starts, in their order.
 fn first_ready(alloc: Global, world: &World, id: u32) -> Result<ReadyQueue, NoMemory>
     requires { IsValid world.now }
-    ensures { IfOk result (λ ready. ready ≡ map (λ start. AnImage (start_image world.now start)) (filter (is_at id) world.now.starts)) }
+    ensures { IfOk result (λ ready. ready ≡ ready_from world.now id 0) }
 {
     let mut ready = ReadyQueue::new(alloc);
     for k in 0..world.starts.len() {
-        if world.starts.as_slice()[k].node.0 == id {
-            let image = Image::start(alloc, world, k)?;
-            ready.push(Waiting::Image(image))?;
-        }
+        add_start(alloc, world, id, k, &mut ready)?;
     }
     Ok(ready)
 }

@@ -18,6 +18,9 @@ use std::mem;
 use unix_calls::{Entry, World};
 use unix_names::{NoMemory, NodeId, Seq};
 
+#[cfg(test)]
+mod tests;
+
 /// What a turn gives: the line of the history, if there is one, and the messages that it sends, in order.
 #[derive(Debug, Drop)]
 pub struct StepOut {
@@ -28,6 +31,7 @@ pub struct StepOut {
 /// One node of the cluster, over a vector of decisions.
 ///
 /// After a call that found no memory, or after `fail`, the node has failed, and every turn answers NoMemory.
+#[derive(Drop)]
 pub struct Node<O: OpVector> {
     ops: O,
     state: State,
@@ -68,9 +72,8 @@ fn take_next<O: OpVector>(
     come(ops, alloc, world, state, message)
 }
 
-impl<O: OpVector> Node<O> {
+impl<O: OpVector + Drop> Node<O> {
     ghost use Rattle.node_core.specs.First.{first_state};
-    ghost use Rattle.node_core.specs.Views.{IsTurned, CanGo, CanPush, CanTake, GoRefuses, PushRefuses, TakeRefuses};
 
     /// A node before the first turn: its own starts are ready, and their records are at home.
     pub fn new(alloc: Global, ops: O, world: &World, id: NodeId) -> Result<Node<O>, NoMemory>
@@ -86,6 +89,10 @@ impl<O: OpVector> Node<O> {
             has_failed: false,
         })
     }
+}
+
+impl<O: OpVector> Node<O> {
+    ghost use Rattle.node_core.specs.Views.{IsTurned, CanGo, CanPush, CanTake, GoRefuses, PushRefuses, TakeRefuses};
 
     /// The first of the ready queue has its turn. Idle exactly where nobody stands there.
     pub fn go(&mut self, alloc: Global, world: &World) -> Result<StepOut, GoRefusal>
@@ -172,6 +179,7 @@ impl<O: OpVector> Node<O> {
         }
     }
 
+    #[tactic(auto, using(node_state::proofs::WireLaws::wire_laws))]
     /// The number of the next message of a wire.
     pub fn expects(&self, from: NodeId) -> u64
         ensures { result ≡ slice_index self.now.state.taken from.0 }

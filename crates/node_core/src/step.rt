@@ -100,7 +100,7 @@ fn ask_once<O: OpVector>(
     alloc: Global,
     world: &World,
     state: &mut State,
-    mut courier: Courier,
+    courier: Courier,
 ) -> Result<Step, NoMemory>
     requires valid { IsValid world.now }
     requires image { IsFit world.now courier.image }
@@ -110,19 +110,33 @@ fn ask_once<O: OpVector>(
     let Some(site) = site_of(state) else {
         return Err(NoMemory);
     };
-    let pid = courier.image.pid;
-    let own = courier.image.own;
-    let job = courier.job;
-    match ops.decide(alloc, pid, &job, &own, &mut courier.bag, site)? {
-        Outcome::Done(done) => {
-            let entry = state.finish(alloc, world, courier.image, courier.bag, done)?;
-            Ok(Step::Over(entry))
-        }
+    let Courier {
+        image,
+        job,
+        wants,
+        mut bag,
+    } = courier;
+    match ops.decide(alloc, image.pid, &job, &image.own, &mut bag, site)? {
+        Outcome::Done(done) => Ok(Step::Over(state.finish(alloc, world, image, bag, done)?)),
         Outcome::Away(node) => {
+            let courier = Courier {
+                image,
+                job,
+                wants,
+                bag,
+            };
             state.post(node.0, Message::Ride(courier))?;
             Ok(Step::Over(None))
         }
-        Outcome::Need(names) => gather(alloc, state, courier, names.as_slice()),
+        Outcome::Need(names) => {
+            let courier = Courier {
+                image,
+                job,
+                wants,
+                bag,
+            };
+            gather(alloc, state, courier, names.as_slice())
+        }
     }
 }
 
