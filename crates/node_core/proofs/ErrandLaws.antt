@@ -25,6 +25,7 @@ use Rattle.node_core.specs.declared.step.Step.TheVariants.{Again, Over}
 use Rattle.node_core.specs.Advance.{Ask, Stepped, asked, stepped, stepped_by, needed, needed_least, restarted, wanted, wanted_at}
 use Rattle.node_core.specs.Turns.{first_of, going, courier_with}
 use Rattle.node_core.specs.Conditions.{Fit, AsksFit, FitsOn, IsKept, CanGoOn, CanSetOut}
+use Rattle.node_core.specs.Views.{NodeView}
 use Rattle.node_core.specs.Errands.{IsErrand, errand}
 
 abbrev pub errands : Ask
@@ -76,3 +77,8 @@ image-goes world s image valid fits is ready =
 -- a courier that wants nothing holds what it wants below
 pub wants-nothing : (world : World) (c : Courier) → IsFit world c.image → c.wants ≡ [] → IsKept world c
 wants-nothing world c fits none = record { image = fits; below = λ n wanted again. let f : false ≡ true = sym (ap (λ ns. lists ns n) none) ∙ wanted in cc }
+
+pub view-ready : {O : Type 0} (a b : NodeView O) → a ≡ b → a.state.ready ≡ b.state.ready
+view-ready a b e = ap (λ (v : NodeView _). v.state.ready) e
+
+pub ruleset fresh_laws = (wants-nothing)

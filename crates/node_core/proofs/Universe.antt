@@ -62,8 +62,8 @@ universe-holds c x e = lists-left (c.wants ++ held_names c.bag) (names_below (2 
 -- what holds of all holds of each that is listed
 pub all-listed : (P : Name → Type 0) (ns : List Name) (x : Name) → All P ns → lists ns x ≡ true → P x
 all-listed P [] x all e = cc
-all-listed P (n ∷ ns) x all e = go (is_name n x) refl e
+all-listed P (n ∷ ns) x all e = go (is_name n x) refl e (λ t. all-listed P ns x (All-tail P n ns all) t)
   where
-    go : (b : Bool) → is_name n x ≡ b → (b || lists ns x) ≡ true → P x
-    go true same e = subst P (is_name-true n x same) (All-head P n ns all)
-    go false same e = all-listed P ns x (All-tail P n ns all) e
+    go : (b : Bool) → is_name n x ≡ b → (b || lists ns x) ≡ true → (lists ns x ≡ true → P x) → P x
+    go true same e rest = subst P (is_name-true n x same) (All-head P n ns all)
+    go false same e rest = rest e

@@ -121,6 +121,7 @@ fn fits(world: &World, image: &Image) -> bool
 }
 
 /// Whether a courier that wants nothing yet may set out.
+#[tactic(auto, using(crate::proofs::ErrandLaws::fresh_laws))]
 fn is_fresh(world: &World, courier: &Courier) -> bool
     ensures { IsTrue result → IsKept world.now courier.now }
 {
