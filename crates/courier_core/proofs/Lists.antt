@@ -54,7 +54,7 @@ lists-lacking bag (m ∷ ms) n there = lacking-by bag m ms n (is_held bag m) ref
     lacking-by bag m ms n true held true same there rest = (refl, (rest there).1)
     lacking-by bag m ms n true held false same there rest = rest there
 
-lists-append : (xs ys : List Name) (n : Name) → lists (xs ++ ys) n ≡ (lists xs n || lists ys n)
+pub lists-append : (xs ys : List Name) (n : Name) → lists (xs ++ ys) n ≡ (lists xs n || lists ys n)
 lists-append [] ys n = refl
 lists-append (x ∷ xs) ys n = append-by (is_name x n) (lists (xs ++ ys) n) (lists xs n) (lists ys n) (lists-append xs ys n)
   where

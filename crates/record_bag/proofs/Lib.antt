@@ -1,2 +1,3 @@
 pub mod BagLaws
 pub mod NameLaws
+pub mod HeldLaws

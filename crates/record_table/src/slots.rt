@@ -44,7 +44,7 @@ pub struct Slots<C> {
 impl<C: Drop> Slots<C> {
     ghost use Rattle.record_table.specs.Places.{nobody, line_of, taken, left, put_back, given, joined, nudged, marked};
     ghost use Rattle.record_table.specs.Slots.{slot_at, with_slot, process, resting, is_known, is_out, after_take, after_nudge, SameElsewhere};
-    ghost use Rattle.record_table.specs.declared.slot.Slot.TheVariants.{Out};
+    ghost use Rattle.record_table.specs.declared.slot.Slot.TheVariants.{Home, Out};
 
     /// Slots in which every record is at home and absent. It takes no memory.
     pub fn new(alloc: Global) -> Slots<C>
@@ -113,9 +113,31 @@ impl<C: Drop> Slots<C> {
         }
     }
 
-    /// Puts the record of a new process at home, under its id.
+    /// Brings a record back as `put` does. Where it is at home already, this one takes its place; that alone may need memory.
+    pub fn lay(&mut self, name: Name, held: Held) -> Result<PutBack<C>, NoMemory>
+        ensures answer { IfOk result (λ answer. let line = line_of (slot_at self.old name) in answer ≡ put_back line.is_marked line.waiters (of_kind name held)) }
+        ensures after { OnOk result (let line = line_of (slot_at self.old name) in self.new ≡ with_slot self.old name (given line.is_marked line.waiters held)) }
+        ensures err { OnErr result (self.new ≡ self.old) }
+    {
+        if self.is_out(name) {
+            return Ok(self.put(name, held));
+        }
+        self.rest(name, held)?;
+        Ok(PutBack::Rests { nudged: false })
+    }
+
+    /// Lays a record at its home, whatever stood there. Where the name was seen, no memory is taken.
+    pub fn rest(&mut self, name: Name, held: Held) -> Result<(), NoMemory>
+        ensures ok { OnOk result (self.new ≡ with_slot self.old name (Home held)) }
+        ensures err { OnErr result (self.new ≡ self.old) }
+        ensures known { is_known self.old name ≡ true → IsOk result }
+    {
+        self.swap(name, Slot::Home(held))?;
+        Ok(())
+    }
+
+    /// Puts the record of a new process at home, under its id, whatever stood there.
     pub fn create(&mut self, vproc: Vproc) -> Result<(), NoMemory>
-        requires { slot_at self.old (process vproc.pid) ≡ resting None }
         ensures ok { OnOk result (self.new ≡ with_slot self.old (process vproc.pid) (resting (Some vproc))) }
         ensures rests { OnOk result (slot_at self.new (process vproc.pid) ≡ resting (Some vproc)) }
         ensures err { OnErr result (self.new ≡ self.old) }

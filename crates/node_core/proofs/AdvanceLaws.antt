@@ -1,0 +1,36 @@
+-- from one question to the next
+use Rattle.std.proofs.Common.{◌≡◌, ℕ, zero, suc, sym, subst, Some, None, refl, ap, ◌∙◌, Option, List}
+use Rattle.unix_names.specs.declared.Name.{Name}
+use Rattle.unix_calls.specs.declared.Entry.{Entry}
+use Rattle.unix_calls.specs.declared.World.{World}
+use Rattle.record_bag.specs.Decisions.{IsLawful}
+use Rattle.courier_core.specs.declared.Courier.{Courier}
+use Rattle.node_state.specs.declared.State.{State}
+use Rattle.node_core.specs.declared.step.Step.{Step}
+use Rattle.node_core.specs.declared.step.Step.TheVariants.{Again, Over}
+use Rattle.node_core.specs.Advance.{Ask, asked, stepped, is_stepped, goes_on, advanced, Advanced, is_advanced}
+use Rattle.node_core.specs.Conditions.{Fit, AsksFit, FitsOn, IsKept}
+use Rattle.node_core.proofs.Universe.{IsUniverse}
+use Rattle.node_core.proofs.Nearer.{Nearer, IsNearer, IsWithin, nearer}
+
+pub again-fits : (fits : Fit) (world : World) (ask : Ask) (s s' : State) (c c' : Courier) → is_stepped s' (Again c') ≡ stepped world ask s c → ((n : ℕ) → AsksFit fits world ask n s c) → (n : ℕ) → AsksFit fits world ask n s' c'
+again-fits fits world ask s s' c c' e h n = subst (λ z. FitsOn (AsksFit fits world ask n) z.state z.step) (sym e) (h (suc n)).1
+
+pub again-back : (world : World) (ask : Ask) (s s' : State) (c c' : Courier) → is_stepped s' (Again c') ≡ stepped world ask s c → (n : ℕ) (r : Advanced) → advanced world ask n s' c' ≡ Some r → advanced world ask (suc n) s c ≡ Some r
+again-back world ask s s' c c' e n r h = subst (λ z. goes_on (advanced world ask n) z.state z.step ≡ Some r) e h
+
+pub over-back : (world : World) (ask : Ask) (s s' : State) (c : Courier) (x : Option Entry) → is_stepped s' (Over x) ≡ stepped world ask s c → advanced world ask 1 s c ≡ Some (is_advanced s' x)
+over-back world ask s s' c x e = subst (λ z. goes_on (advanced world ask 0) z.state z.step ≡ Some (is_advanced s' x)) e refl
+
+-- what a courier that goes on keeps
+pub again-nearer : (world : World) (ask : Ask) (U : List Name) → IsUniverse U → (s s' : State) (c c' : Courier) → is_stepped s' (Again c') ≡ stepped world ask s c → IsLawful c.bag (asked ask s c) → IsKept world c → IsWithin U c → IsNearer world U c c'
+again-nearer world ask U whole s s' c c' e law kept within = subst (λ z. Nearer world U c z.step) (sym e) (nearer world ask U whole s c law kept within)
+
+goes_more : (f g : State → Courier → Option Advanced) → ((s : State) (c : Courier) (r : Advanced) → f s c ≡ Some r → g s c ≡ Some r) → (s : State) (step : Step) (r : Advanced) → goes_on f s step ≡ Some r → goes_on g s step ≡ Some r
+goes_more f g ih s (Again c) r h = ih s c r h
+goes_more f g ih s (Over e) r h = h
+
+-- more questions than suffice change nothing
+pub one-more : (world : World) (ask : Ask) (n : ℕ) (s : State) (c : Courier) (r : Advanced) → advanced world ask n s c ≡ Some r → advanced world ask (suc n) s c ≡ Some r
+one-more world ask zero s c r h = cc
+one-more world ask (suc n) s c r h = goes_more (advanced world ask n) (advanced world ask (suc n)) (one-more world ask n) (stepped world ask s c).state (stepped world ask s c).step r h

@@ -1,0 +1,7 @@
+pub mod Universe
+pub mod Nearer
+pub mod AdvanceLaws
+pub mod ErrandLaws
+pub mod FirstLaws
+pub mod WantLaws
+pub mod TurnLaws

@@ -1,0 +1,6 @@
+pub mod Advance
+pub mod Turns
+pub mod Conditions
+pub mod Views
+pub mod First
+pub mod Errands

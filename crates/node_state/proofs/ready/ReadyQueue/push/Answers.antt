@@ -1,0 +1,9 @@
+use Rattle.node_state.proofs.CountLaws.{joined-counted}
+use Rattle.node_state.proofs.ready.ReadyQueue.push.Goals as goal
+
+pub invariant_of-self-2 : goal.invariant_of-self-2
+invariant_of-self-2 c = (
+  c.self.invariant.0,
+  joined-counted c.join.result c.self.inside.passed c.self.inside.others c.join.new.queue c.self.inside.counts c.count.new.counts c.join.new.counts c.args.waiting
+      c.in_ok-count.ensures.ok c.join.ensures.ok c.join.ensures.err c.join.ensures.counted c.join.ensures.uncounted c.self.invariant.1,
+)
