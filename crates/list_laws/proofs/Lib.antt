@@ -3,3 +3,4 @@ pub mod Finding
 pub mod Elements
 pub mod Counts
 pub mod Middles
+pub mod Firsts
