@@ -8,7 +8,7 @@ use Rattle.vproc_record.specs.declared.Vproc.{Vproc}
 use Rattle.group_record.specs.declared.Group.{Group}
 use Rattle.ordered_table.specs.declared.Entry.{Entry}
 use Rattle.ordered_table.specs.Entries.{value_at, with_value}
-use Rattle.ordered_table.proofs.MapLaws.{put-same, put-other}
+use Rattle.ordered_table.proofs.MapLaws.{put-same, put-other, with_value_again}
 use Rattle.record_bag.specs.declared.Held.{Held}
 use Rattle.record_table.specs.declared.slot.Slot.{Slot}
 use Rattle.record_table.specs.declared.slot.Slot.TheVariants.{Home, Out}
@@ -18,18 +18,6 @@ use Rattle.record_table.specs.declared.slots.Slots.{Slots}
 use Rattle.record_table.specs.declared.slots.PutBack.TheVariants.{Handed}
 use Rattle.record_table.specs.Places.{nobody, in_vprocs, in_groups, of_vproc, of_group, place_in, is_out_slot, line_of, left, put_back, given, joined, marked}
 use Rattle.record_table.specs.Slots.{slot_at, with_slot, process, is_known, is_out, after_nudge, SameElsewhere}
-
-put-twice-by : {T : Type 0} (e : Entry T) (es : List (Entry T)) (p : Pid) (v w : T) (b c : Bool) → nat_lt e.pid.0 p.0 ≡ b → (e.pid.0 == p.0) ≡ c → with_value (with_value es p v) p w ≡ with_value es p w →
-    with_value (if b then e ∷ with_value es p v else (if c then (record { pid = p; value = v }) ∷ es else (record { pid = p; value = v }) ∷ e ∷ es)) p w
-    ≡ (if b then e ∷ with_value es p w else (if c then (record { pid = p; value = w }) ∷ es else (record { pid = p; value = w }) ∷ e ∷ es))
-put-twice-by e es p v w true c less same rest = rw less (ap (λ xs. e ∷ xs) rest)
-put-twice-by e es p v w false true less same rest = rw (le-ltb p.0 p.0 (omega arith), eq-eqb p.0 p.0 refl) refl
-put-twice-by e es p v w false false less same rest = rw (le-ltb p.0 p.0 (omega arith), eq-eqb p.0 p.0 refl) refl
-
--- the later of two values stays
-pub put-twice : {T : Type 0} (es : List (Entry T)) (p : Pid) (v w : T) → with_value (with_value es p v) p w ≡ with_value es p w
-put-twice [] p v w = rw (le-ltb p.0 p.0 (omega arith), eq-eqb p.0 p.0 refl) refl
-put-twice (e ∷ es) p v w = put-twice-by e es p v w (nat_lt e.pid.0 p.0) (e.pid.0 == p.0) refl refl (put-twice es p v w)
 
 put-known-by : {T : Type 0} (e : Entry T) (es : List (Entry T)) (p : Pid) (v : T) (b c : Bool) → (e.pid.0 == p.0) ≡ c → (value_at es p ≡ Some v → with_value es p v ≡ es) →
     (if b then value_at es p else (if c then Some e.value else None)) ≡ Some v →
@@ -73,8 +61,8 @@ slot_at-put_other s (name.G p) (name.G q) a ne = ap (λ o. of_group (unwrap_or o
 
 -- the later of two slots stays
 pub with_slot-twice : {C : Type 0} (s : Slots C) (n : Name) (a b : Slot Held (Line C)) → with_slot (with_slot s n a) n b ≡ with_slot s n b
-with_slot-twice s (name.V p) a b = ap (λ vs. record s { vprocs = vs }) (put-twice s.vprocs p (in_vprocs a) (in_vprocs b))
-with_slot-twice s (name.G g) a b = ap (λ gs. record s { groups = gs }) (put-twice s.groups g (in_groups a) (in_groups b))
+with_slot-twice s (name.V p) a b = ap (λ vs. record s { vprocs = vs }) (with_value_again s.vprocs p (in_vprocs a) (in_vprocs b))
+with_slot-twice s (name.G g) a b = ap (λ gs. record s { groups = gs }) (with_value_again s.groups g (in_groups a) (in_groups b))
 
 -- who is out was seen
 out-known : {R L : Type 0} (o : Option (Slot (Option R) L)) → is_out_slot (unwrap_or o (Home None)) ≡ true → is_some o ≡ true
