@@ -12,7 +12,7 @@ use script_reader::read_file;
 use script_words::ReadRefusal;
 use solo_core::run;
 use std::alloc::{AllocError, Global};
-use unix_calls::{MOST_TURNS, Call, Entry, Reply, Turn, World};
+use unix_calls::{Call, Entry, MOST_TURNS, Reply, Turn, World};
 use unix_names::{NoMemory, Seq};
 
 /// What the run of a made file comes to.

@@ -19,7 +19,9 @@ pub fn tell(rt: &HostRuntime, status: Status, words: &[String]) -> io::Result<()
             eprintln!(rt; "vproc: standard input could not be read; nothing was written")
         }
         Status::WriteFault => {
-            eprintln!(rt; "vproc: standard output took no more; what was written is only a beginning")
+            eprintln!(rt;
+                "vproc: standard output took no more; what was written is only a beginning"
+            )
         }
         Status::NoMemory => eprintln!(rt; "vproc: memory ran out; nothing was written"),
         Status::TooLong => {

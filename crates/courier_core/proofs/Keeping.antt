@@ -62,8 +62,9 @@ all_added-new names (m ∷ ms) n e = go (is_name m n) refl e (all_added-new (add
 pub all_added-from : (names more : List Name) (n : Name) → lists (all_added names more) n ≡ true → (lists names n ≡ true) ⊎ (lists more n ≡ true)
 all_added-from names [] n e = inl e
 all_added-from names (m ∷ ms) n e = elim (all_added-from (added names m) ms n e) [
-    inl a ↦ go (lists names m) a
-  | inr b ↦ inr (or_right (is_name m n) (lists ms n) b) ]
+  | inl a ↦ go (lists names m) a
+  | inr b ↦ inr (or_right (is_name m n) (lists ms n) b)
+]
   where
     last : (is_name m n || false) ≡ true → (lists names n ≡ true) ⊎ ((is_name m n || lists ms n) ≡ true)
     last h = elim (or_cases (is_name m n) false h) [ inl a ↦ inr (or_left (is_name m n) (lists ms n) a) | inr b ↦ absurd (cc b) ]
@@ -122,12 +123,13 @@ taking-keeps c need x h below next n wanted again = go (is_held c.bag n) refl
     go : (b : Bool) → is_held c.bag n ≡ b → is_held (with_held c.bag x h) n ≡ true
     go true has = more has
     go false lacks = elim (any-held_put (λ m. is_before n m) c.bag x h again) [
-        inl a ↦ more (below n wanted a)
+      | inl a ↦ more (below n wanted a)
       | inr b ↦
           let is = next-is c need x next in
           let not : is_before n x ≡ false = none_before-at x n (lacking c.bag (asked c need)) is.first (lacking-lists c.bag (asked c need) n (lists-left c.wants need n wanted) lacks) in
           let f : true ≡ false = sym b ∙ not in
-          cc ]
+          cc
+    ]
 
 -- who begins anew holds nothing, so nothing below
 pub nothing-below : (c : Courier) → held_names c.bag ≡ [] → HoldsWhatIsBelow c

@@ -103,5 +103,5 @@ module _ (seed nodes leaders followers workers : ℕ) (s : AreSizes nodes leader
     starts = starts-valid;
     work = let all = s.all in
         ap is_little (whole-work nodes leaders followers workers s seed (after_workers workers seed))
-            ∙ rw (le-leb (leaders + followers) MOST_PROCESSES (omega arith), le-leb (2 * leaders + 10 * followers) MOST_WORK (omega arith)) refl;
+        ∙ rw (le-leb (leaders + followers) MOST_PROCESSES (omega arith), le-leb (2 * leaders + 10 * followers) MOST_WORK (omega arith)) refl;
   }

@@ -99,7 +99,7 @@ module _ (world : World) (U : List Name) (whole : IsUniverse U) (s : State) (c :
         kept = record { image = kept.image; below = nothing-below (record c { wants = all_added c.wants (names ++ held_names c.bag); bag = empty_bag }) refl };
         within = record { wants = λ n e. from n (all_added-from c.wants (names ++ held_names c.bag) n e); holds = λ n e. cc };
         near = restart-less U c (record c { wants = all_added c.wants (names ++ held_names c.bag); bag = empty_bag }) x (λ n e. all_added-old c.wants (names ++ held_names c.bag) n e) (told x asked_for) fresh
-          (all_added-new c.wants (names ++ held_names c.bag) x (lists-left names (held_names c.bag) x asked_for));
+            (all_added-new c.wants (names ++ held_names c.bag) x (lists-left names (held_names c.bag) x asked_for));
       }
     where
       by : lists c.wants x ≡ false → (lists c.wants x ≡ true) ⊎ (lists names x ≡ true) → lists names x ≡ true

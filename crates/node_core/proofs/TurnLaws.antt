@@ -39,11 +39,12 @@ push-fits fits world ask s to image q c first rest is can =
 
 pub push-back : (world : World) (ask : Ask) (s new : State) (to : NodeId) (image : Image) (q : List Waiting) (c : Courier) (entry : Option Entry) → Some image ≡ first_movable s.ready → q ≡ without_movable s.ready → c ≡ courier_with image (job.Push to) →
     (n : ℕ) × (advanced world ask n (record s { ready = q }) c ≡ Some (is_advanced new entry)) → IsLed world ask (pushed s to) s new (Some entry)
-push-back world ask s new to image q c entry first rest is (n, came-so) =
-    (n,
-      ap (λ o. led world ask n (option_map (moved_with s to) o)) (sym first)
+push-back world ask s new to image q c entry first rest is (n, came-so) = (
+  n,
+  ap (λ o. led world ask n (option_map (moved_with s to) o)) (sym first)
       ∙ (ap (λ r. advanced world ask n (record s { ready = r }) (courier_with image (job.Push to))) (sym rest)
-      ∙ (ap (advanced world ask n (record s { ready = q })) (sym is) ∙ came-so)))
+      ∙ (ap (advanced world ask n (record s { ready = q })) (sym is) ∙ came-so)),
+)
 
 pub push-idle : (world : World) (ask : Ask) (s : State) (to : NodeId) (q : List Waiting) → None ≡ first_movable s.ready → q ≡ s.ready → IsLed world ask (pushed s to) s (record s { ready = q }) None
 push-idle world ask s to q none same = (ap (option_map (moved_with s to)) (sym none), ap (λ r. record s { ready = r }) same)

@@ -37,8 +37,9 @@ pub lists-below : (n : ℕ) (x : Name) → pid_of x < n → lists (names_below n
 unfolding names_below
 lists-below zero x lt = absurd (omega arith)
 lists-below (suc n) x lt = elim (below-cases (pid_of x) n lt) [
-    inl e ↦ here x n (names_below n) e
-  | inr l ↦ or_right (is_name (name.V (record { 0 = n })) x) (is_name (name.G (record { 0 = n })) x || lists (names_below n) x) (or_right (is_name (name.G (record { 0 = n })) x) (lists (names_below n) x) (lists-below n x l)) ]
+  | inl e ↦ here x n (names_below n) e
+  | inr l ↦ or_right (is_name (name.V (record { 0 = n })) x) (is_name (name.G (record { 0 = n })) x || lists (names_below n) x) (or_right (is_name (name.G (record { 0 = n })) x) (lists (names_below n) x) (lists-below n x l))
+]
 
 pub universe : Courier → List Name
 universe c = c.wants ++ held_names c.bag ++ names_below (2 ^ 32)

@@ -117,12 +117,7 @@ impl<O: OpVector> Node<O> {
     }
 
     /// The first image of the ready queue that is not stopped sets out to be moved to a node. Idle exactly where there is none.
-    pub fn push(
-        &mut self,
-        alloc: Global,
-        world: &World,
-        to: NodeId,
-    ) -> Result<StepOut, GoRefusal>
+    pub fn push(&mut self, alloc: Global, world: &World, to: NodeId) -> Result<StepOut, GoRefusal>
         requires { CanPush O.fits O.answer world.now to self.old }
         ensures ok { IfOk result (λ out. (n : ℕ) × IsTurned self.new.state out.entry out.sends (led world.now (O.answer self.old.ops) n (pushed self.old.state to))) }
         ensures refused { IfErr result (λ refusal. PushRefuses refusal self.old self.new) }

@@ -32,8 +32,9 @@ or_right false b h = h
 any-put-by : {T : Type 0} (f : Pid → Bool) (e : Entry T) (es : List (Entry T)) (p : Pid) (v : T) (b c : Bool) → (list_any f (pids_of (with_value es p v)) ≡ true → (list_any f (pids_of es) ≡ true) ⊎ (f p ≡ true)) →
     list_any f (pids_of (if b then e ∷ with_value es p v else (if c then (record { pid = p; value = v }) ∷ es else (record { pid = p; value = v }) ∷ e ∷ es))) ≡ true → ((f e.pid || list_any f (pids_of es)) ≡ true) ⊎ (f p ≡ true)
 any-put-by f e es p v true c rest h = elim (or_cases (f e.pid) (list_any f (pids_of (with_value es p v))) h) [
-    inl a ↦ inl (or_left (f e.pid) (list_any f (pids_of es)) a)
-  | inr r ↦ elim (rest r) [ inl i ↦ inl (or_right (f e.pid) (list_any f (pids_of es)) i) | inr j ↦ inr j ] ]
+  | inl a ↦ inl (or_left (f e.pid) (list_any f (pids_of es)) a)
+  | inr r ↦ elim (rest r) [ inl i ↦ inl (or_right (f e.pid) (list_any f (pids_of es)) i) | inr j ↦ inr j ]
+]
 any-put-by f e es p v false true rest h = elim (or_cases (f p) (list_any f (pids_of es)) h) [ inl a ↦ inr a | inr r ↦ inl (or_right (f e.pid) (list_any f (pids_of es)) r) ]
 any-put-by f e es p v false false rest h = elim (or_cases (f p) (f e.pid || list_any f (pids_of es)) h) [ inl a ↦ inr a | inr r ↦ inl r ]
 

@@ -66,15 +66,19 @@ or_right false b h = h
 -- what holds of some held name after a put, held of one before or holds of the name that was put
 pub any-held_put : (f : Name → Bool) (bag : Bag) (n : Name) (h : Held) → list_any f (held_names (with_held bag n h)) ≡ true → (list_any f (held_names bag) ≡ true) ⊎ (f n ≡ true)
 any-held_put f bag (name.V p) h e = elim (or_cases (list_any (λ q. f (name.V q)) (pids_of (with_held bag (name.V p) h).vprocs)) (list_any (λ g. f (name.G g)) (pids_of bag.groups)) (sym (any-names f (with_held bag (name.V p) h)) ∙ e)) [
-    inl a ↦ elim (any-put (λ q. f (name.V q)) bag.vprocs p (vproc_of h) a) [
-        inl i ↦ inl (any-names f bag ∙ or_left (list_any (λ q. f (name.V q)) (pids_of bag.vprocs)) (list_any (λ g. f (name.G g)) (pids_of bag.groups)) i)
-      | inr j ↦ inr j ]
-  | inr b ↦ inl (any-names f bag ∙ or_right (list_any (λ q. f (name.V q)) (pids_of bag.vprocs)) (list_any (λ g. f (name.G g)) (pids_of bag.groups)) b) ]
+  | inl a ↦ elim (any-put (λ q. f (name.V q)) bag.vprocs p (vproc_of h) a) [
+    | inl i ↦ inl (any-names f bag ∙ or_left (list_any (λ q. f (name.V q)) (pids_of bag.vprocs)) (list_any (λ g. f (name.G g)) (pids_of bag.groups)) i)
+    | inr j ↦ inr j
+  ]
+  | inr b ↦ inl (any-names f bag ∙ or_right (list_any (λ q. f (name.V q)) (pids_of bag.vprocs)) (list_any (λ g. f (name.G g)) (pids_of bag.groups)) b)
+]
 any-held_put f bag (name.G p) h e = elim (or_cases (list_any (λ q. f (name.V q)) (pids_of bag.vprocs)) (list_any (λ g. f (name.G g)) (pids_of (with_held bag (name.G p) h).groups)) (sym (any-names f (with_held bag (name.G p) h)) ∙ e)) [
-    inl a ↦ inl (any-names f bag ∙ or_left (list_any (λ q. f (name.V q)) (pids_of bag.vprocs)) (list_any (λ g. f (name.G g)) (pids_of bag.groups)) a)
+  | inl a ↦ inl (any-names f bag ∙ or_left (list_any (λ q. f (name.V q)) (pids_of bag.vprocs)) (list_any (λ g. f (name.G g)) (pids_of bag.groups)) a)
   | inr b ↦ elim (any-put (λ g. f (name.G g)) bag.groups p (group_of h) b) [
-        inl i ↦ inl (any-names f bag ∙ or_right (list_any (λ q. f (name.V q)) (pids_of bag.vprocs)) (list_any (λ g. f (name.G g)) (pids_of bag.groups)) i)
-      | inr j ↦ inr j ] ]
+    | inl i ↦ inl (any-names f bag ∙ or_right (list_any (λ q. f (name.V q)) (pids_of bag.vprocs)) (list_any (λ g. f (name.G g)) (pids_of bag.groups)) i)
+    | inr j ↦ inr j
+  ]
+]
 
 -- a record of the other kind counts as absent once and for all
 pub with_held-kind : (bag : Bag) (n : Name) (h : Held) → with_held bag n (of_kind n h) ≡ with_held bag n h

@@ -6,8 +6,5 @@ mod laws;
 mod moves;
 
 pub use fold::{fold_tail, stream_len, tail_len};
-pub use laws::{
-    appending_grows_streams, leaving_keeps_streams, trimming_keeps_streams,
-};
+pub use laws::{appending_grows_streams, leaving_keeps_streams, trimming_keeps_streams};
 pub use moves::{is_listed, regroup, settle};
-

@@ -1,8 +1,8 @@
 // Lines that histories have and that have no meaning.
 ghost use Rattle.std.specs.Prelude.{◌≡◌, length};
 
-use histories::{Stamped, TextRefusal, put_history_two, read_history, read_history_two};
 use file_parts::Span;
+use histories::{Stamped, TextRefusal, put_history_two, read_history, read_history_two};
 use std::alloc::Global;
 use std::process::Abort;
 use std::test::Fail;

@@ -259,11 +259,13 @@ fn vproc(alloc: Global, pid: u32, place: u32) -> Vproc {
 /// The courier that rides to node 1 as the first message there, the last that was sent.
 fn ride_sent(sends: &mut Seq<Sent>) -> Option<Courier> {
     match sends.pop() {
-        Some(Sent {
-            to: 1,
-            number: 0,
-            message: Message::Ride(courier),
-        }) => Some(courier),
+        Some(
+            Sent {
+                to: 1,
+                number: 0,
+                message: Message::Ride(courier),
+            },
+        ) => Some(courier),
         _ => None,
     }
 }
@@ -271,11 +273,13 @@ fn ride_sent(sends: &mut Seq<Sent>) -> Option<Courier> {
 /// The image that goes to node 0 as the second message there, the last that was sent.
 fn image_sent(sends: &mut Seq<Sent>) -> Option<Image> {
     match sends.pop() {
-        Some(Sent {
-            to: 0,
-            number: 1,
-            message: Message::Back(image),
-        }) => Some(image),
+        Some(
+            Sent {
+                to: 0,
+                number: 1,
+                message: Message::Back(image),
+            },
+        ) => Some(image),
         _ => None,
     }
 }
@@ -283,11 +287,13 @@ fn image_sent(sends: &mut Seq<Sent>) -> Option<Image> {
 /// The record that goes to node 0 as the first message there, the last that was sent.
 fn record_sent(sends: &mut Seq<Sent>) -> Option<(Name, Held)> {
     match sends.pop() {
-        Some(Sent {
-            to: 0,
-            number: 0,
-            message: Message::Put(name, held),
-        }) => Some((name, held)),
+        Some(
+            Sent {
+                to: 0,
+                number: 0,
+                message: Message::Put(name, held),
+            },
+        ) => Some((name, held)),
         _ => None,
     }
 }
@@ -300,7 +306,15 @@ fn a_node_begins_and_fails(rt: HostRuntime) -> Result<(), Fail> {
     assert!(rt; !node.is_idle());
     assert!(rt; node.expects(NodeId(1)) == 0);
     let late = node.take(rt.alloc(), &world, NodeId(1), 5, Message::Poke(Pid(2)));
-    assert!(rt; matches!(late, Err(TakeRefusal::NotNext { expected: 0, got: 5 })));
+    assert!(rt;
+        matches!(
+            late,
+            Err(TakeRefusal::NotNext {
+                expected: 0,
+                got: 5
+            })
+        )
+    );
     node.fail();
     assert!(rt; node.is_idle());
     let refused = node.push(rt.alloc(), &world, NodeId(1));

@@ -15,6 +15,6 @@ pub returns : goal.returns
 returns c =
     on_ok_weaker c.push.result
     (λ e. ap (λ q. q ++ ready_from c.args.world.now c.args.id (c.args.k + 1)) e
-      ∙ place-more (start_image c.args.world.now) waiting.Image (is_at c.args.id) c.args.world.now.starts c.args.k c.in_ok-image.image c.args.ready.now
-        (at-place (is_at c.args.id) c.args.world.now.starts c.args.k true c.requires.start (sym c.if-not-is_at.false ∙ c.is_at.ensures)) c.in_ok-image.ensures.image)
+    ∙ place-more (start_image c.args.world.now) waiting.Image (is_at c.args.id) c.args.world.now.starts c.args.k c.in_ok-image.image c.args.ready.now
+    (at-place (is_at c.args.id) c.args.world.now.starts c.args.k true c.requires.start (sym c.if-not-is_at.false ∙ c.is_at.ensures)) c.in_ok-image.ensures.image)
     c.push.ensures.ok

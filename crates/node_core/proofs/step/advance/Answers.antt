@@ -18,13 +18,13 @@ asking-init g c = record {
 pub asking-smaller : goal.asking-smaller
 asking-smaller g c =
     (again-nearer c.args.world.now (g.O.OpVector.answer c.args.ops.now) (universe c.args.courier) (universe-all c.args.courier) c.asking.state c.ask_once.new.state c.asking.c c.in-Again.next
-      (sym (ap (is_stepped c.ask_once.new.state) c.in-Again.is) ∙ c.in_ok-next.ensures) (g.met.O.OpVector.lawful c.args.ops.now _ _ _ _ _ (c.asking.invariant.asks 1).0) c.asking.invariant.kept c.asking.invariant.within).near
+    (sym (ap (is_stepped c.ask_once.new.state) c.in-Again.is) ∙ c.in_ok-next.ensures) (g.met.O.OpVector.lawful c.args.ops.now _ _ _ _ _ (c.asking.invariant.asks 1).0) c.asking.invariant.kept c.asking.invariant.within).near
 
 pub asking-preserved : goal.asking-preserved
 asking-preserved g c =
     let e = sym (ap (is_stepped c.ask_once.new.state) c.in-Again.is) ∙ c.in_ok-next.ensures in
     let next = again-nearer c.args.world.now (g.O.OpVector.answer c.args.ops.now) (universe c.args.courier) (universe-all c.args.courier) c.asking.state c.ask_once.new.state c.asking.c c.in-Again.next
-      e (g.met.O.OpVector.lawful c.args.ops.now _ _ _ _ _ (c.asking.invariant.asks 1).0) c.asking.invariant.kept c.asking.invariant.within in
+    e (g.met.O.OpVector.lawful c.args.ops.now _ _ _ _ _ (c.asking.invariant.asks 1).0) c.asking.invariant.kept c.asking.invariant.within in
     record {
       kept = next.kept;
       within = next.within;
