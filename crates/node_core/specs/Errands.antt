@@ -84,5 +84,5 @@ lawful-about None p j own bag fits = lawful-without p j own bag
 lawful-about (Some t) p j own bag fits = lawful-holding (is_held bag (V (record { 0 = t }))) (record { 0 = t }) bag (with_news p t own bag) refl fits refl
 
 -- its answers keep the law
-pub lawful-errand : (p : Pid) (j : Job) (own : Own) (bag : Bag) → IsErrand p j → IsLawful bag (errand p j own bag)
-lawful-errand p j own bag fits = lawful-holding (is_held bag (V p)) p bag (errand_about (about j) p j own bag) refl fits.0 (lawful-about (about j) p j own bag fits.1)
+pub lawful_errand : (p : Pid) (j : Job) (own : Own) (bag : Bag) → IsErrand p j → IsLawful bag (errand p j own bag)
+lawful_errand p j own bag fits = lawful-holding (is_held bag (V p)) p bag (errand_about (about j) p j own bag) refl fits.0 (lawful-about (about j) p j own bag fits.1)
