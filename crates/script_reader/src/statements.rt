@@ -5,84 +5,11 @@ ghost use Rattle.script_reader.specs.Statements as spec;
 use crate::names::{Names, Numbers};
 use crate::places::Place;
 use script_words::{
-    Kind, ended, is_minus_digits, is_word, name, node, number, signal, signal_number, word_at,
+    Kind, Verb, act_named, changes_in, ended, is_minus_digits, is_word, name, node, number, signal,
+    signal_number, word_at,
 };
 use unix_calls::{Arg, Statement};
-use unix_names::{Act, NodeId, SigSet};
-
-/// What a statement begins with.
-#[derive(Clone, Copy, Debug, PartialEq, Eq)]
-pub enum Verb {
-    Getpid,
-    Getppid,
-    Getpgid,
-    Getsid,
-    Fork,
-    Exec,
-    Exit,
-    Wait,
-    Poll,
-    Kill,
-    Setpgid,
-    Setsid,
-    Action,
-    Mask,
-    Pending,
-    Migrate,
-}
-
-const ALL_VERBS: [Verb; 16] = [
-    Verb::Getpid,
-    Verb::Getppid,
-    Verb::Getpgid,
-    Verb::Getsid,
-    Verb::Fork,
-    Verb::Exec,
-    Verb::Exit,
-    Verb::Wait,
-    Verb::Poll,
-    Verb::Kill,
-    Verb::Setpgid,
-    Verb::Setsid,
-    Verb::Action,
-    Verb::Mask,
-    Verb::Pending,
-    Verb::Migrate,
-];
-
-fn text_of(verb: Verb) -> &'static str
-    ensures { result.now ≡ spec.text_of verb }
-{
-    match verb {
-        Verb::Getpid => "getpid",
-        Verb::Getppid => "getppid",
-        Verb::Getpgid => "getpgid",
-        Verb::Getsid => "getsid",
-        Verb::Fork => "fork",
-        Verb::Exec => "exec",
-        Verb::Exit => "exit",
-        Verb::Wait => "wait",
-        Verb::Poll => "poll",
-        Verb::Kill => "kill",
-        Verb::Setpgid => "setpgid",
-        Verb::Setsid => "setsid",
-        Verb::Action => "action",
-        Verb::Mask => "mask",
-        Verb::Pending => "pending",
-        Verb::Migrate => "migrate",
-    }
-}
-
-/// The statement's word that a word is.
-#[tactic(auto, unfolding(crate::specs::Statements::verb_named))]
-pub fn verb_named(word: &[u8]) -> Option<Verb>
-    ensures { result ≡ spec.verb_named word.now }
-{
-    ALL_VERBS
-        .iter()
-        .copied()
-        .find(|v| is_word(word, text_of(*v)))
-}
+use unix_names::{NodeId, SigSet};
 
 /// A variable that is given a value.
 #[tactic(auto, unfolding(crate::specs::Statements::own_variable))]
