@@ -34,7 +34,11 @@ impl fmt::Display for BadLine {
 /// The entries of a part of a file, up to the end of its history. `Bad` comes exactly where the part is no history of any entries, with the first line at which it stops being one.
 ///
 /// The part lies in the bytes, and its first line is from 1 to 2^31. There are fewer than 2^31 bytes.
-pub fn read_history(alloc: Global, bytes: &[u8], part: Span) -> Result<Vec<Entry>, ReadRefusal<BadLine>>
+pub fn read_history(
+    alloc: Global,
+    bytes: &[u8],
+    part: Span,
+) -> Result<Vec<Entry>, ReadRefusal<BadLine>>
     requires few { length bytes.now < 2 ^ 31 }
     requires order { part.from ≤ part.to }
     requires within { part.to ≤ length bytes.now }

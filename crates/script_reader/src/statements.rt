@@ -9,7 +9,7 @@ use script_words::{
     signal_number, word_at,
 };
 use unix_calls::{Arg, Statement};
-use unix_names::{NodeId, SigSet};
+use unix_names::{Act, NodeId, SigSet};
 
 /// A variable that is given a value.
 #[tactic(auto, unfolding(crate::specs::Statements::own_variable))]
@@ -128,25 +128,14 @@ fn selector<'a>(variables: &Numbers<'a>, word: &'a [u8]) -> Result<(bool, bool, 
     }
 }
 
-// Which changes of a child `wait` asks for too: stopped ones, continued ones.
+// Which changes of a child `wait` asks for too, from its third word on: stopped ones, continued ones.
 #[tactic(auto, unfolding(crate::specs::Statements::changes))]
 fn changes(words: &[&[u8]]) -> Result<(bool, bool), Kind>
     ensures { result ≡ spec.changes (map (λ w. w.now) words.now) }
 {
-    if words.len() <= 2 {
-        Ok((false, false))
-    } else if is_word(word_at(words, 2), "stopped") {
-        if words.len() <= 3 {
-            Ok((true, false))
-        } else if is_word(word_at(words, 3), "continued") {
-            ended(words, 4, (true, true))
-        } else {
-            Err(Kind::UnknownWord)
-        }
-    } else if is_word(word_at(words, 2), "continued") {
-        ended(words, 3, (false, true))
-    } else {
-        Err(Kind::UnknownWord)
+    match words {
+        [_, _, asked @ ..] => changes_in(asked).ok_or(Kind::UnknownWord),
+        _ => Ok((false, false)),
     }
 }
 
@@ -154,15 +143,7 @@ fn changes(words: &[&[u8]]) -> Result<(bool, bool), Kind>
 fn act(word: &[u8]) -> Result<Act, Kind>
     ensures { result ≡ spec.act word.now }
 {
-    if is_word(word, "default") {
-        Ok(Act::Default)
-    } else if is_word(word, "ignore") {
-        Ok(Act::Ignore)
-    } else if is_word(word, "catch") {
-        Ok(Act::Catch)
-    } else {
-        Err(Kind::UnknownWord)
-    }
+    act_named(word).ok_or(Kind::UnknownWord)
 }
 
 fn signals(words: &[&[u8]]) -> Result<SigSet, Kind>

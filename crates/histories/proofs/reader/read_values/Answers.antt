@@ -4,7 +4,6 @@ use Rattle.std.proofs.lemmas.List.{drop_all}
 use Rattle.std.proofs.lemmas.Result.{err_from_is_err_and}
 use Rattle.std.proofs.lemmas.Grind.{common_steps}
 use Rattle.byte_ends.specs.Text.{lines}
-use Rattle.unix_calls.specs.declared.Entry.{Entry}
 use Rattle.histories.specs.declared.reader.BadLine.{BadLine}
 use Rattle.histories.specs.Reading.{Meanings, is_nothing, is_schedule, is_last, IsFirstBadOf}
 use Rattle.histories.proofs.HistoryLaws.{Reached, reached-end, reached-nothing, reached-entry, reached-schedule, reached-last, reached-bad, reached-bad_end}
