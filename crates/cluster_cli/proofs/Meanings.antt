@@ -3,6 +3,7 @@ use Rattle.std.proofs.Common.{◌≡◌, ◌⊎◌, inl, inr, ℕ, ◌+◌, ◌<
 use Rattle.std.specs.Prelude.{map, nat_lt}
 use Rattle.std.proofs.lemmas.Bool.{ltb-true, ltb-false, lt-ltb, le-ltb}
 use Rattle.byte_ends.specs.Text.{lines, words}
+use Rattle.unix_calls.specs.declared.limits.TheConstants.{MOST_TURNS}
 use Rattle.unix_calls.specs.declared.Turn.{Turn}
 use Rattle.unix_calls.specs.declared.Turn.TheVariants.{Auto}
 use Rattle.unix_calls.specs.declared.World.{World}
@@ -34,7 +35,7 @@ some_same x y e = cc
 
 -- ---- the faults of a schedule
 fault_of_turns : (nodes first : ℕ) (ls : Option Lines) (fault : Fault) → turns_given nodes first ls ≡ Err fault → IsFaultOfTurns nodes first ls fault
-fault_of_turns nodes first None fault e = absurd (ok_err (Auto 200000 ∷ []) fault e)
+fault_of_turns nodes first None fault e = absurd (ok_err (Auto MOST_TURNS ∷ []) fault e)
 fault_of_turns nodes first (Some ls) fault e = (turns.least_told nodes first ls fault).0 e
 
 turns_fault_told : (nodes first : ℕ) (ls : Option Lines) (fault : Fault) → IsFaultOfTurns nodes first ls fault → turns_given nodes first ls ≡ Err fault

@@ -11,8 +11,7 @@ use Rattle.audit_core.specs.declared.judge.Judged.TheVariants as judged
 use Rattle.audit_core.specs.Judge.{IsJudged}
 use Rattle.audit_core.specs.Told.{judged_text}
 use Rattle.audit_core.proofs.Judgements.{one_judgement}
-use Rattle.histories.specs.declared.TextRefusal.TheVariants.{BadLine}
-use Rattle.histories.specs.Told.{refusal_text}
+use Rattle.histories.specs.Told.{bad_line_text}
 use Rattle.histories.specs.Reading.{Means as MeansEntry}
 use Rattle.histories.specs.Laws.{MeansOrFails}
 use Rattle.histories.proofs.Meanings.{spelling-unique, entry-known}
@@ -87,7 +86,7 @@ one_line (Some ls) first line line' a b = elim (known ls first) [
 abbrev HasSpoken : Option Lines → ℕ → World → Status → List ℕ → Type 0
 HasSpoken ls first world s text =
     ((entries : List Entry) × HasHistory ls entries × IsVerdict world entries s text)
-    ⊎ ((line : ℕ) × HasBadLine ls first line × (s ≡ Illegal) × (text ≡ refusal_text (BadLine line) ++ codes "\n"))
+    ⊎ ((line : ℕ) × HasBadLine ls first line × (s ≡ Illegal) × (text ≡ bad_line_text line ++ codes "\n"))
 
 one_spoken : (ls : Option Lines) (first : ℕ) (world : World) (text text' : List ℕ) (s s' : Status) → HasSpoken ls first world s text → HasSpoken ls first world s' text' → (s ≡ s') × (text ≡ text')
 one_spoken ls first world text text' s s' (inl a) (inl b) =
@@ -96,7 +95,7 @@ one_spoken ls first world text text' s s' (inl a) (inl b) =
 one_spoken ls first world text text' s s' (inl a) (inr b) = absurd (not_both ls first b.0 a.0 a.1 b.1)
 one_spoken ls first world text text' s s' (inr a) (inl b) = absurd (not_both ls first a.0 b.0 b.1 a.1)
 one_spoken ls first world text text' s s' (inr a) (inr b) =
-    (a.2 ∙ sym b.2, a.3 ∙ ap (λ n. refusal_text (BadLine n) ++ codes "\n") (one_line ls first a.0 b.0 a.1 b.1) ∙ sym b.3)
+    (a.2 ∙ sym b.2, a.3 ∙ ap (λ n. bad_line_text n ++ codes "\n") (one_line ls first a.0 b.0 a.1 b.1) ∙ sym b.3)
 
 -- ---- audit
 abbrev AuditOutcome : List ℕ → Status → List ℕ → Result Given Fault → Type 0

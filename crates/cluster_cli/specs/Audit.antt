@@ -8,8 +8,7 @@ use Rattle.audit_core.specs.declared.judge.Judged.TheVariants as judged
 use Rattle.audit_core.specs.Told.{judged_text}
 use Rattle.audit_core.specs.Judge.{IsJudged}
 use Rattle.file_parts.specs.Parts.{Lines, front_lines, history_lines}
-use Rattle.histories.specs.declared.TextRefusal.TheVariants.{BadLine}
-use Rattle.histories.specs.Told.{refusal_text}
+use Rattle.histories.specs.Told.{bad_line_text}
 use Rattle.histories.specs.Reading.{IsHistory, IsFirstBad}
 use Rattle.cluster_cli.specs.declared.status.Status.{Status}
 use Rattle.cluster_cli.specs.declared.status.Status.TheVariants.{Done, BadFile, Illegal}
@@ -53,7 +52,7 @@ pub record FindsBadLine (input output : List ℕ) : Type 0 where
   pub line : ℕ
   pub reads : Means input given
   pub bad : HasBadLine (history_lines (lines input)) (2 + length (front_lines (lines input))) line
-  pub writes : output ≡ refusal_text (BadLine line) ++ codes "\n"
+  pub writes : output ≡ bad_line_text line ++ codes "\n"
 
 -- the verdict on a history, or what is said of the least fault of the world and the schedule
 abbrev pub Audits : Texts

@@ -8,7 +8,8 @@ ghost use Rattle.cluster_cli.specs.Replay.{run_text, Replays};
 ghost use Rattle.cluster_cli.specs.Reading.{AreParts};
 ghost use Rattle.cluster_cli.specs.Audit.{HasHistory, HasBadLine, verdict_status, IsVerdict, Audits};
 ghost use Rattle.audit_core.specs.Told.{judged_text};
-ghost use Rattle.histories.specs.Told.{refusal_text};
+ghost use Rattle.histories.specs.Told.{bad_line_text};
+ghost use Rattle.histories.specs.declared.BadLine.{BadLine as BadAt};
 ghost use Rattle.byte_ends.specs.Text.{lines};
 ghost use Rattle.file_parts.specs.Parts.{IsPartOf, front_lines, history_lines};
 ghost use Rattle.unix_calls.specs.Calls.{EntryHasNames};
@@ -19,7 +20,7 @@ use crate::input::{Given, read_given, read_runnable};
 use crate::status::Status;
 use audit_core::{Judged, audit as judge};
 use file_parts::{Parts, Span, split};
-use histories::{TextRefusal, put_history, read_history};
+use histories::{BadLine, put_history, read_history};
 use script_words::{Fault, ReadRefusal};
 use solo_core::run;
 use std::alloc::{AllocError, Global};
@@ -107,8 +108,8 @@ fn heard(alloc: Global, input: &[u8], parts: &Parts, given: &Given) -> Result<An
     ensures text { IfOk result (λ a. Audits a.status input.now a.text.items) }
 {
     match history_given(alloc, input, parts.history) {
-        Err(TextRefusal::NoMemory) => Err(NoMemory),
-        Err(TextRefusal::BadLine(line)) => bad_line(alloc, TextRefusal::BadLine(line)),
+        Err(ReadRefusal::NoMemory) => Err(NoMemory),
+        Err(ReadRefusal::Bad(bad)) => bad_line(alloc, bad),
         Ok(entries) => judged(alloc, &given.world, &entries),
     }
 }
@@ -145,11 +146,15 @@ fn status_of(judged: Judged) -> Status
 
 // A history part's entries; without one there are none.
 #[tactic(auto, using(crate::proofs::Runs::history_first))]
-fn history_given(alloc: Global, input: &[u8], part: Option<Span>) -> Result<Vec<Entry>, TextRefusal>
+fn history_given(
+    alloc: Global,
+    input: &[u8],
+    part: Option<Span>,
+) -> Result<Vec<Entry>, ReadRefusal<BadLine>>
     requires short { length input.now ≤ LONGEST_INPUT }
     requires part { IsPartOf input.now (history_lines (lines input.now)) (2 + length (front_lines (lines input.now))) part }
     ensures entries { IfOk result (λ v. HasHistory (history_lines (lines input.now)) v.items) }
-    ensures bad { (line : ℕ) → result ≡ Err (TextRefusal.BadLine line) → HasBadLine (history_lines (lines input.now)) (2 + length (front_lines (lines input.now))) line }
+    ensures bad { (bad : BadAt) → result ≡ Err (ReadRefusal.Bad bad) → HasBadLine (history_lines (lines input.now)) (2 + length (front_lines (lines input.now))) bad.line }
 {
     match part {
         None => Ok(Vec::new(alloc)),
@@ -157,21 +162,21 @@ fn history_given(alloc: Global, input: &[u8], part: Option<Span>) -> Result<Vec<
     }
 }
 
-fn bad_line(alloc: Global, refusal: TextRefusal) -> Result<Answer, NoMemory>
+fn bad_line(alloc: Global, bad: BadLine) -> Result<Answer, NoMemory>
     ensures illegal { IfOk result (λ a. a.status ≡ Status.Illegal) }
-    ensures text { IfOk result (λ a. a.text.items ≡ refusal_text refusal ++ codes "\n") }
+    ensures text { IfOk result (λ a. a.text.items ≡ bad_line_text bad.line ++ codes "\n") }
 {
-    let text = refusal_text(alloc, refusal)?;
+    let text = bad_text(alloc, bad)?;
     Ok(Answer {
         status: Status::Illegal,
         text,
     })
 }
 
-fn refusal_text(alloc: Global, refusal: TextRefusal) -> Result<Vec<u8>, AllocError>
-    ensures { IfOk result (λ text. text.items ≡ refusal_text refusal ++ codes "\n") }
+fn bad_text(alloc: Global, bad: BadLine) -> Result<Vec<u8>, AllocError>
+    ensures { IfOk result (λ text. text.items ≡ bad_line_text bad.line ++ codes "\n") }
 {
     let mut text = String::new(alloc);
-    writeln!(text, "{refusal}")?;
+    writeln!(text, "{bad}")?;
     Ok(text.into_bytes())
 }

@@ -4,7 +4,7 @@ use Rattle.std.specs.Prelude.{codes}
 use Rattle.std.proofs.lemmas.List.Elements.{All-head, All-tail}
 use Rattle.script_words.specs.declared.faults.Kind.{Kind}
 use Rattle.script_words.specs.Words.{Word, Row, is_same}
-use Rattle.script_reader.specs.declared.statements.Verb.{Verb}
+use Rattle.script_words.specs.declared.table.Verb.{Verb}
 use Rattle.script_reader.specs.declared.lines.Head.{Head}
 use Rattle.script_reader.specs.declared.lines.Head.TheVariants as head
 use Rattle.script_reader.specs.Lines.{head_of}

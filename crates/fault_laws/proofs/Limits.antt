@@ -5,13 +5,13 @@ use Rattle.std.proofs.lemmas.Bool.{eqb-true}
 use Rattle.script_words.specs.declared.faults.Kind.{Kind}
 use Rattle.script_words.specs.declared.faults.Kind.TheVariants.{TooManyScripts, TooManyStatements, TooManyStarts}
 use Rattle.script_words.specs.Words.{Word, Row, is_same, word_at, is_skipped}
-use Rattle.script_reader.specs.declared.statements.Verb.{Verb}
+use Rattle.script_words.specs.declared.table.Verb.{Verb}
 use Rattle.script_reader.specs.declared.lines.Head.{Head}
 use Rattle.script_reader.specs.declared.lines.Head.TheVariants as head
-use Rattle.script_reader.specs.Statements.{verb_named}
+use Rattle.script_words.specs.Table.{verb_named}
 use Rattle.script_reader.specs.Lines.{head_of}
 use Rattle.script_reader.specs.Files.{begins_with}
-use Rattle.script_laws.proofs.Words.{same_words, verb_word}
+use Rattle.script_laws.proofs.Words.{same_words, verb_spelled}
 use Rattle.script_laws.proofs.Heads.{verb_head, script_head, start_head}
 use Rattle.fault_laws.specs.Context.{is_begun, is_open, is_statement, statement_count, script_names, start_names}
 use Rattle.fault_laws.specs.Faults.{PassesLimit}
@@ -42,7 +42,7 @@ statement_head : (row : Row) → is_statement row ≡ true → (v : Verb) × (he
 statement_head row e = go (verb_named (word_at row 0)) refl e
   where
     go : (o : Option Verb) → verb_named (word_at row 0) ≡ o → is_some o ≡ true → (v : Verb) × (head_of (word_at row 0) ≡ head.Says v)
-    go (Some v) is s = (v, ap head_of (verb_word (word_at row 0) v is) ∙ (verb_head v).head)
+    go (Some v) is s = (v, ap head_of (verb_spelled (word_at row 0) v is) ∙ (verb_head v).head)
     go None is s = cc
 
 -- ---- limits

@@ -11,11 +11,11 @@ use Rattle.list_laws.proofs.Filters.{or_false}
 use Rattle.script_words.specs.declared.faults.Kind.{Kind}
 use Rattle.script_words.specs.Words.{Word, Row, is_same, word_at, is_skipped}
 use Rattle.script_reader.specs.declared.places.Place.{Place}
-use Rattle.script_reader.specs.declared.statements.Verb.{Verb}
+use Rattle.script_words.specs.declared.table.Verb.{Verb}
 use Rattle.script_reader.specs.declared.lines.Head.{Head}
 use Rattle.script_reader.specs.declared.lines.Head.TheVariants as head
 use Rattle.script_reader.specs.declared.lines.Item.{Item}
-use Rattle.script_reader.specs.Statements.{verb_named}
+use Rattle.script_words.specs.Table.{verb_named}
 use Rattle.script_reader.specs.Lines.{head_of, nodes_after, placed_after, place_after}
 use Rattle.script_reader.specs.Files.{begins_with, words_behind, Told, first_place, place_behind}
 use Rattle.script_laws.proofs.Words.{same_words, skipped_script, skipped_start}

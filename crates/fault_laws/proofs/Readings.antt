@@ -6,14 +6,15 @@ use Rattle.std.proofs.lemmas.Bool.{leb-true, leb-false, ltb-true, ltb-false, eqb
 use Rattle.byte_ends.specs.Text.{IsNumber}
 use Rattle.unix_names.specs.declared.Signal.{Signal}
 use Rattle.unix_names.specs.declared.Act.{Act}
-use Rattle.unix_names.specs.declared.Act.TheVariants.{Default, Ignore, Catch}
 use Rattle.unix_names.specs.Signals.{number_of, word_of, signal_of, signal_named}
 use Rattle.unix_names.proofs.SignalLaws.{number_of-signal_of, signal_of-number_of, word_of-signal_named}
 use Rattle.unix_calls.specs.declared.Arg.TheVariants.{Zero, One, Nobody, Own, Maker, Var}
 use Rattle.script_words.specs.declared.faults.Kind.{Kind}
 use Rattle.script_words.specs.declared.faults.Kind.TheVariants.{UnknownWord, UnknownScript, LaterScript, BadNumber, NoSuchNode, DoubleName, LongName}
 use Rattle.script_words.specs.Words.{Word, Row, ◌>>=◌, found, is_same, word_at, has_name_form, is_reserved, name, is_number, number, node, begins_with_digit, signal_number, signal, is_minus_digits}
+use Rattle.script_words.specs.Table.{act_named}
 use Rattle.script_words.proofs.Numbers.{is_number-decides}
+use Rattle.script_words.proofs.Spelled.{act_named-act_word}
 use Rattle.script_reader.specs.declared.names.Names.{Names}
 use Rattle.script_reader.specs.declared.places.Place.{Place}
 use Rattle.script_reader.specs.Names.{Table, number_in}
@@ -21,7 +22,8 @@ use Rattle.script_reader.specs.Lines.{is_numbered, start_variable, earlier_start
 use Rattle.script_reader.specs.Statements.{own_variable, script, earlier_script, variable, group, process, target, wanted_group, selector, act}
 use Rattle.script_reader.specs.Files.{begins_with}
 use Rattle.script_laws.specs.Grammar.{IsName, IsFor, IsForSignal, act_word}
-use Rattle.script_laws.proofs.Words.{same_words}
+use Rattle.script_laws.proofs.Words.{same_words, act_spelled}
+use Rattle.script_laws.proofs.Understood.{act_is}
 use Rattle.script_laws.proofs.Reading.{name_read}
 use Rattle.fault_laws.specs.Context.{nodes_in, variable_names}
 use Rattle.fault_laws.specs.Slots as slot
@@ -105,15 +107,12 @@ signal_told rows before word some =
 pub act_told : (rows before : List Row) (word : Word) → Tells (act word) (λ a. Fits rows before slot.action word) (Misfits rows before slot.action word)
 unfolding act
 act_told rows before word =
-    tells_choice (is_same word (codes "default")) _ _ _ _ (λ e. tells_ok Default _ _ (Default, same_words word (codes "default") e)) (λ d.
-    tells_choice (is_same word (codes "ignore")) _ _ _ _ (λ e. tells_ok Ignore _ _ (Ignore, same_words word (codes "ignore") e)) (λ i.
-    tells_choice (is_same word (codes "catch")) _ _ _ _ (λ e. tells_ok Catch _ _ (Catch, same_words word (codes "catch") e)) (λ c.
-    tells_err UnknownWord _ _ (refl, λ a. none d i c a.0 a.1))))
+    tells_weaker (found (act_named word) UnknownWord) _ _ _ _ (found_told (act_named word) UnknownWord)
+    (λ a e. (a, act_spelled word a e ∙ act_is a))
+    (λ kind h. (h.0, λ a. none h.1 a.0 a.1))
   where
-    none : is_same word (codes "default") ≡ false → is_same word (codes "ignore") ≡ false → is_same word (codes "catch") ≡ false → (a : Act) → word ≡ act_word a → ⊥
-    none d i c Default e = differ word (codes "default") d e
-    none d i c Ignore e = differ word (codes "ignore") i e
-    none d i c Catch e = differ word (codes "catch") c e
+    none : act_named word ≡ None → (a : Act) → word ≡ act_word a → ⊥
+    none n a e = let named : act_named word ≡ Some a = ap act_named (e ∙ sym (act_is a)) ∙ act_named-act_word a in cc
 
 -- a number that is less than another, and one that is not
 within : (a n b c : ℕ) → a ≡ n → b ≡ c → n < b → a < c

@@ -7,13 +7,14 @@ use Rattle.script_words.specs.declared.faults.Kind.TheVariants.{NoClusterLine, U
 use Rattle.script_words.specs.Words.{Word, Row, ◌>>=◌, is_same, word_at, ended, is_skipped}
 use Rattle.script_reader.specs.declared.names.Names.{Names}
 use Rattle.script_reader.specs.declared.places.Place.{Place}
-use Rattle.script_reader.specs.declared.statements.Verb.{Verb}
-use Rattle.script_reader.specs.declared.statements.Verb.TheVariants as verb
+use Rattle.script_words.specs.declared.table.Verb.{Verb}
+use Rattle.script_words.specs.declared.table.Verb.TheVariants as verb
 use Rattle.script_reader.specs.declared.lines.Head.{Head}
 use Rattle.script_reader.specs.declared.lines.Head.TheVariants as head
 use Rattle.script_reader.specs.declared.lines.Item.{Item}
 use Rattle.script_reader.specs.declared.lines.Item.TheVariants as item
-use Rattle.script_reader.specs.Statements.{text_of, verb_named, statement_of}
+use Rattle.script_words.specs.Table.{verb_word, verb_named}
+use Rattle.script_reader.specs.Statements.{statement_of}
 use Rattle.script_reader.specs.Lines.{head_of, cluster_line, script_line, end_line, statement_line, start_words, start_line, later_line, read_row}
 use Rattle.script_reader.specs.Files.{begins_with}
 use Rattle.script_laws.proofs.Words.{same_words, BeginsSo, head_word, begins_so, script_word, start_word}
@@ -46,7 +47,7 @@ first_word : (word : Word) (words : Row) → word_at (word ∷ words) 0 ≡ word
 unfolding word_at
 first_word word words = refl
 
-verb_is : (v : Verb) → is_some (verb_named (text_of v)) ≡ true
+verb_is : (v : Verb) → is_some (verb_named (verb_word v)) ≡ true
 unfolding verb_named is_same
 verb_is verb.Getpid = refl
 verb_is _ = refl
@@ -155,7 +156,7 @@ module _ (names : Names) (place : Place) (rows before : List Row) (word : Word) 
         fits : (place.starts == MOST_STARTS) ≡ false → Within
         fits few = within_at head.Start h (λ kind over. eqb-false place.starts MOST_STARTS few (knows.starts ∙ over.1))
 
-    says_told : (v : Verb) → head_of First ≡ head.Says v → First ≡ text_of v → Read (statement_line names place v Line)
+    says_told : (v : Verb) → head_of First ≡ head.Says v → First ≡ verb_word v → Read (statement_line names place v Line)
     unfolding statement_line
     says_told v h w =
         tells_choice place.is_open _ (Err UnknownWord) _ _ (λ o.

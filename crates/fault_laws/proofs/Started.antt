@@ -14,7 +14,7 @@ use Rattle.script_reader.specs.declared.lines.Item.{Item}
 use Rattle.script_reader.specs.declared.lines.Item.TheVariants as item
 use Rattle.script_reader.specs.declared.lines.StartLine.{StartLine}
 use Rattle.script_reader.specs.declared.places.Place.{Place}
-use Rattle.script_reader.specs.Statements.{text_of}
+use Rattle.script_words.specs.Table.{verb_word}
 use Rattle.script_reader.specs.Lines.{place_after}
 use Rattle.script_reader.specs.Files.{begins_with, words_behind, Told, first_place, start_of, with_start}
 use Rattle.script_laws.proofs.Words.{skipped_start, begins_so, verb_start, start_word}
@@ -80,7 +80,7 @@ module _ (lines : List (List ℕ)) where
   step_named place row i now rows numbers (opens m s b w nu l lo hi e n) a = no_start row rows i numbers (begins_so row (codes "start") (codes "cluster") false w start_word.3) (rw e refl) a
   step_named place row i now rows numbers (begins s b w c o nm d l e n) a = no_start row rows i numbers (begins_so row (codes "start") (codes "script") false w start_word.0) (rw e refl) a
   step_named place row i now rows numbers (ends s b w o l e n) a = no_start row rows i numbers (begins_so row (codes "start") (codes "end") false w start_word.1) (rw e refl) a
-  step_named place row i now rows numbers (says v s k b w o c st e n) a = no_start row rows i numbers (begins_so row (codes "start") (text_of v) false w (verb_start v)) (rw e refl) a
+  step_named place row i now rows numbers (says v s k b w o c st e n) a = no_start row rows i numbers (begins_so row (codes "start") (verb_word v) false w (verb_start v)) (rw e refl) a
   step_named place row i now rows numbers (starts s k b w c o st e n) a =
       subst (λ (x : Item). AreNamed (row ∷ rows) (with_script_of (Ok x) numbers)) (sym e)
       (some_start row rows s.script numbers (begins_so row (codes "start") (codes "start") true w start_word.2) (script_first lines (word_at row 2) s.script (script_there (names_of lines).scripts (word_at row 2) s.script st.script)) a)

@@ -1,5 +1,5 @@
 -- the words of a statement, read where they stand: they are as the statement's form has them, or the fault is that of the first wrong one
-use Rattle.std.proofs.Common.{◌≡◌, ℕ, suc, Bool, true, false, List, [], ◌∷◌, drop, refl, ap, ◌∙◌, Some, None, Result, Err}
+use Rattle.std.proofs.Common.{◌≡◌, inl, inr, ℕ, suc, Bool, true, false, List, [], ◌∷◌, drop, refl, ap, ◌∙◌, Some, None, Result, Err}
 use Rattle.std.specs.Prelude.{codes}
 use Rattle.std.proofs.lemmas.List.Elements.{All-nil, All-cons, All-head, All-tail, All-drop}
 use Rattle.unix_names.specs.declared.states.Act.{Act}
@@ -9,19 +9,21 @@ use Rattle.unix_calls.specs.declared.world.Arg.{Arg}
 use Rattle.unix_calls.specs.declared.world.Statement.TheVariants as statement
 use Rattle.script_words.specs.declared.faults.Kind.{Kind}
 use Rattle.script_words.specs.declared.faults.Kind.TheVariants.{UnknownWord}
-use Rattle.script_words.specs.Words.{Word, Row, ◌>>=◌, is_same, word_at, name, has_name_form, number, begins_with_digit, signal_number, signal, ended, node}
+use Rattle.script_words.specs.Words.{Word, Row, ◌>>=◌, found, is_same, word_at, name, has_name_form, number, begins_with_digit, signal_number, signal, ended, node}
 use Rattle.script_reader.specs.declared.names.Names.{Names}
 use Rattle.script_reader.specs.declared.places.Place.{Place}
-use Rattle.script_reader.specs.declared.statements.Verb.{Verb}
-use Rattle.script_reader.specs.declared.statements.Verb.TheVariants as verb
+use Rattle.script_words.specs.declared.table.Verb.{Verb}
+use Rattle.script_words.specs.declared.table.Verb.TheVariants as verb
 use Rattle.script_reader.specs.Names.{Table}
-use Rattle.script_reader.specs.Statements.{text_of, own_variable, script, earlier_script, variable, group, process, target, wanted_group, selector, changes, act, signals, site, fork_statement, wait_statement, kill_statement, setpgid_statement, action_statement, mask_statement, migrate_statement, exec_statement, exit_statement, getpgid_statement, getsid_statement, statement_of}
+use Rattle.script_words.specs.Table.{verb_word, act_named, changes_in}
+use Rattle.script_reader.specs.Statements.{own_variable, script, earlier_script, variable, group, process, target, wanted_group, selector, changes, act, signals, site, fork_statement, wait_statement, kill_statement, setpgid_statement, action_statement, mask_statement, migrate_statement, exec_statement, exit_statement, getpgid_statement, getsid_statement, statement_of}
 use Rattle.script_reader.specs.Files.{begins_with}
-use Rattle.script_laws.proofs.Words.{begins_so, fork_word}
+use Rattle.script_laws.proofs.Words.{same_words, begins_so, fork_word}
 use Rattle.fault_laws.specs.Slots as slot
 use Rattle.fault_laws.specs.Slots.{Fits, Misfits}
 use Rattle.fault_laws.specs.Patterns.{Pattern, ends, needs, may, each, wait_form, form_of, AreRight, AreWrong}
-use Rattle.fault_laws.proofs.Tells.{tells_ok, tells_next, tells_weaker}
+use Rattle.fault_laws.proofs.Words.{differ}
+use Rattle.fault_laws.proofs.Tells.{tells_ok, tells_err, tells_next, tells_weaker}
 use Rattle.fault_laws.proofs.Knows.{AreWords, Knows}
 use Rattle.fault_laws.proofs.Readings.{number_told, signal_number_told, signal_told, act_told, node_told, any_script_told, earlier_script_told, variable_told, process_told, target_told, wanted_told, selector_told}
 use Rattle.fault_laws.proofs.Shapes.{At, Reads, map_told, needs_told, ended_told, may_or}
@@ -32,6 +34,36 @@ site_form = may (codes "at") (needs slot.node ends) ends
 
 abbrev changes_form : Pattern
 changes_form = may (codes "stopped") (may (codes "continued") ends ends) (may (codes "continued") ends ends)
+
+module _ (rows before : List Row) where
+  -- a word too many behind the one change that may stand there
+  one_more : (word next : Word) (more : Row) → AreWrong rows before (may (codes "continued") ends ends) (word ∷ next ∷ more) UnknownWord
+  one_more word next more = go (is_same word (codes "continued")) refl
+    where
+      go : (c : Bool) → is_same word (codes "continued") ≡ c → AreWrong rows before (may (codes "continued") ends ends) (word ∷ next ∷ more) UnknownWord
+      go true e = inl (same_words word (codes "continued") e, refl)
+      go false e = inr (differ word (codes "continued") e, refl)
+
+  asked_told : (words : Row) → At rows before (found (changes_in words) UnknownWord) changes_form words
+  unfolding changes_in
+  asked_told [] = tells_ok (false, false) _ _ refl
+  asked_told (only ∷ []) = go (is_same only (codes "stopped")) (is_same only (codes "continued")) refl refl
+    where
+      go : (s c : Bool) → is_same only (codes "stopped") ≡ s → is_same only (codes "continued") ≡ c → At rows before (found (changes_in (only ∷ [])) UnknownWord) changes_form (only ∷ [])
+      go true c es ec = rw es (tells_ok (true, false) _ _ (inl (same_words only (codes "stopped") es, refl)))
+      go false true es ec = rw (es, ec) (tells_ok (false, true) _ _ (inr (differ only (codes "stopped") es, inl (same_words only (codes "continued") ec, refl))))
+      go false false es ec = rw (es, ec) (tells_err UnknownWord _ _ (inr (differ only (codes "stopped") es, inr (differ only (codes "continued") ec, refl))))
+  asked_told (first ∷ second ∷ []) = go (is_same first (codes "stopped")) (is_same second (codes "continued")) refl refl
+    where
+      go : (s c : Bool) → is_same first (codes "stopped") ≡ s → is_same second (codes "continued") ≡ c → At rows before (found (changes_in (first ∷ second ∷ [])) UnknownWord) changes_form (first ∷ second ∷ [])
+      go true true es ec = rw (es, ec) (tells_ok (true, true) _ _ (inl (same_words first (codes "stopped") es, inl (same_words second (codes "continued") ec, refl))))
+      go true false es ec = rw (es, ec) (tells_err UnknownWord _ _ (inl (same_words first (codes "stopped") es, inr (differ second (codes "continued") ec, refl))))
+      go false c es ec = rw es (tells_err UnknownWord _ _ (inr (differ first (codes "stopped") es, one_more first second [])))
+  asked_told (first ∷ second ∷ third ∷ more) = go (is_same first (codes "stopped")) refl
+    where
+      go : (s : Bool) → is_same first (codes "stopped") ≡ s → At rows before (found (changes_in (first ∷ second ∷ third ∷ more)) UnknownWord) changes_form (first ∷ second ∷ third ∷ more)
+      go true es = tells_err UnknownWord _ _ (inl (same_words first (codes "stopped") es, one_more second third more))
+      go false es = tells_err UnknownWord _ _ (inr (differ first (codes "stopped") es, one_more first second (third ∷ more)))
 
 -- ---- words that are missing
 pub name_none : name [] ≡ Err UnknownWord
@@ -47,7 +79,7 @@ unfolding signal_number begins_with_digit signal_named is_same
 signal_number_none = refl
 
 act_none : act [] ≡ Err UnknownWord
-unfolding act is_same
+unfolding act act_named is_same
 act_none = refl
 
 pub node_none : (nodes : ℕ) → node nodes [] ≡ Err UnknownWord
@@ -146,11 +178,8 @@ module _ (names : Names) (place : Place) (rows before : List Row) (row : Row) (k
       (node_at ends 4 _ (λ n. ended_at 5 (Some (record { 0 = n })))) (ended_at 3 None)
 
   changes_told : Here (changes row) changes_form 2
-  unfolding changes ended
-  changes_told =
-      may_or rows before row are (codes "stopped") (may (codes "continued") ends ends) (may (codes "continued") ends ends) 2 (false, false) _ _ (λ e. cc)
-      (may_or rows before row are (codes "continued") ends ends 3 (true, false) _ (Err UnknownWord) (λ e. cc) (ended_at 4 (true, true)) (ended_at 3 (true, false)))
-      (may_or rows before row are (codes "continued") ends ends 2 (false, false) _ (Err UnknownWord) (λ e. cc) (ended_at 3 (false, true)) (ended_at 2 (false, false)))
+  unfolding changes
+  changes_told = asked_told rows before (drop 2 row)
 
   fork_told : begins_with (codes "fork") row ≡ true → Here (fork_statement names place row) (form_of verb.Fork) 1
   unfolding fork_statement
@@ -203,7 +232,7 @@ module _ (names : Names) (place : Place) (rows before : List Row) (row : Row) (k
   migrate_told = node_at ends 1 _ (λ n. ended_at 2 (statement.Migrate (record { 0 = n })))
 
   -- the words behind a statement's word
-  pub statement_told : (v : Verb) → word_at row 0 ≡ text_of v → Here (statement_of names place v row) (form_of v) 1
+  pub statement_told : (v : Verb) → word_at row 0 ≡ verb_word v → Here (statement_of names place v row) (form_of v) 1
   unfolding statement_of
   statement_told verb.Getpid w = ended_at 1 statement.Getpid
   statement_told verb.Getppid w = ended_at 1 statement.Getppid

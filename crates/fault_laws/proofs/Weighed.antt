@@ -11,10 +11,11 @@ use Rattle.script_words.specs.declared.faults.Kind.TheVariants.{NotUtf8, LaterSc
 use Rattle.script_words.specs.Words.{Word, Row, is_same, word_at, is_skipped, number, signal_number, node}
 use Rattle.script_reader.specs.declared.names.Names.{Names}
 use Rattle.script_reader.specs.declared.places.Place.{Place}
-use Rattle.script_reader.specs.declared.statements.Verb.{Verb}
-use Rattle.script_reader.specs.declared.statements.Verb.TheVariants as verb
+use Rattle.script_words.specs.declared.table.Verb.{Verb}
+use Rattle.script_words.specs.declared.table.Verb.TheVariants as verb
 use Rattle.script_reader.specs.declared.lines.Item.{Item}
-use Rattle.script_reader.specs.Statements.{text_of, verb_named, own_variable, script, earlier_script, process, target, wanted_group, selector, changes, act, signals, site, fork_statement, wait_statement, kill_statement, setpgid_statement, action_statement, mask_statement, migrate_statement, exec_statement, exit_statement, getpgid_statement, getsid_statement, statement_of}
+use Rattle.script_words.specs.Table.{verb_word, verb_named}
+use Rattle.script_reader.specs.Statements.{own_variable, script, earlier_script, process, target, wanted_group, selector, changes, act, signals, site, fork_statement, wait_statement, kill_statement, setpgid_statement, action_statement, mask_statement, migrate_statement, exec_statement, exit_statement, getpgid_statement, getsid_statement, statement_of}
 use Rattle.script_reader.specs.Lines.{read_row, read_line, place_after}
 use Rattle.script_reader.specs.Files.{begins_with, Told, first_place, said, with_said, body, scripts_of}
 use Rattle.script_laws.proofs.Results.{Gives, next, gives, ended_here, anything, next_ok, then_ok, ended_ok}
@@ -84,18 +85,18 @@ module _ (names : Names) (place : Place) (row : Row) where
   plain_migrate = next (node place.nodes (word_at row 1)) _ _ IsPlain (anything (node place.nodes (word_at row 1))) (λ n _. ended_here row 2 (statement.Migrate (record { 0 = n })) IsPlain refl)
 
 -- ---- what a line weighs
-verb_is : (v : Verb) → is_some (verb_named (text_of v)) ≡ true
+verb_is : (v : Verb) → is_some (verb_named (verb_word v)) ≡ true
 unfolding verb_named is_same
 verb_is verb.Getpid = refl
 verb_is _ = refl
 
 -- a verb other than fork and exec
-plain_weighs : (rows : List Row) (row : Row) (v : Verb) (s : Statement) → word_at row 0 ≡ text_of v → is_same (text_of v) (codes "fork") ≡ false → is_same (text_of v) (codes "exec") ≡ false → IsPlain s → Weighs rows row s
+plain_weighs : (rows : List Row) (row : Row) (v : Verb) (s : Statement) → word_at row 0 ≡ verb_word v → is_same (verb_word v) (codes "fork") ≡ false → is_same (verb_word v) (codes "exec") ≡ false → IsPlain s → Weighs rows row s
 plain_weighs rows row v s w f x p =
     so_weighs rows row s (subst (ChargesSo rows row) (sym p) (
       ap (λ (z : Word). is_some (verb_named z)) w ∙ verb_is v,
-      begins_so row (codes "fork") (text_of v) false w f,
-      begins_so row (codes "exec") (text_of v) false w x,
+      begins_so row (codes "fork") (verb_word v) false w f,
+      begins_so row (codes "exec") (verb_word v) false w x,
     ))
 
 -- the number of a script on an earlier line is that of the first line of its name
@@ -131,7 +132,7 @@ exec_weighs lines place row s e w =
     let is : statement.Exec b.0 ≡ s = (ended_ok row 2 (statement.Exec b.0) s b.2).1 in
     subst (Weighs (map words lines) row) is (exec_begins row w, earlier_first lines place (word_at row 1) b.0 b.1)
 
-said_weighs : (lines : List (List ℕ)) (place : Place) (row : Row) (v : Verb) (s : Statement) → statement_of (names_of lines) place v row ≡ Ok s → word_at row 0 ≡ text_of v → Weighs (map words lines) row s
+said_weighs : (lines : List (List ℕ)) (place : Place) (row : Row) (v : Verb) (s : Statement) → statement_of (names_of lines) place v row ≡ Ok s → word_at row 0 ≡ verb_word v → Weighs (map words lines) row s
 unfolding statement_of is_same
 said_weighs lines place row verb.Fork s e w = fork_weighs lines place row s e w
 said_weighs lines place row verb.Exec s e w = exec_weighs lines place row s e w

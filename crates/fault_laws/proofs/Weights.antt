@@ -8,7 +8,7 @@ use Rattle.unix_calls.specs.declared.world.Statement.TheVariants.{Fork, Exec}
 use Rattle.unix_calls.specs.declared.work.Work.{Work}
 use Rattle.unix_calls.specs.Work.{work, together, work_of, without_itself, with_statement, with_script, works}
 use Rattle.script_words.specs.Words.{Word, Row, is_same, word_at}
-use Rattle.script_reader.specs.Statements.{verb_named}
+use Rattle.script_words.specs.Table.{verb_named}
 use Rattle.script_reader.specs.Files.{begins_with, with_said}
 use Rattle.script_laws.proofs.Words.{same_words, begins_so}
 use Rattle.fault_laws.specs.Context.{is_statement, script_names}

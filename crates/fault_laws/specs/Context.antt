@@ -3,7 +3,7 @@ use Rattle.std.specs.Prelude.{ℕ, ◌+◌, ◌-◌, Bool, true, false, not, if�
 use Rattle.std.specs.List.{list_any}
 use Rattle.std.specs.Str.Parse.{digits_value}
 use Rattle.script_words.specs.Words.{Word, Row, word_at, is_skipped}
-use Rattle.script_reader.specs.Statements.{verb_named}
+use Rattle.script_words.specs.Table.{verb_named}
 use Rattle.script_reader.specs.Files.{begins_with, words_behind}
 
 -- a line that says something: it has words, and the first does not begin with `#`

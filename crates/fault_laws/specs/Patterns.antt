@@ -3,9 +3,9 @@ use Rattle.std.specs.Prelude.{◌≡◌, ◌≢◌, ◌⊎◌, Bool, true, false
 use Rattle.script_words.specs.declared.Kind.{Kind}
 use Rattle.script_words.specs.declared.Kind.TheVariants.{NoClusterLine, UnknownWord}
 use Rattle.script_words.specs.Words.{Word, Row, is_skipped}
-use Rattle.script_reader.specs.declared.statements.Verb.{Verb}
-use Rattle.script_reader.specs.declared.statements.Verb.TheVariants as verb
-use Rattle.script_reader.specs.Statements.{text_of}
+use Rattle.script_words.specs.declared.table.Verb.{Verb}
+use Rattle.script_words.specs.declared.table.Verb.TheVariants as verb
+use Rattle.script_words.specs.Table.{verb_word}
 use Rattle.fault_laws.specs.Context.{is_begun, is_open}
 use Rattle.fault_laws.specs.Slots.{Slot, total, number, node, new_script, any_script, earlier_script, variable, new_start, earlier_start, process, target, wanted, selector, signal_number, signal, action, Fits, Misfits}
 
@@ -57,7 +57,7 @@ Begins before word form =
     ⊎ ((is_begun before ≡ true) × (is_open before ≡ false) × (word ≡ codes "script") × (form ≡ needs new_script ends))
     ⊎ ((is_begun before ≡ true) × (is_open before ≡ true) × (word ≡ codes "end") × (form ≡ ends))
     ⊎ ((is_begun before ≡ true) × (is_open before ≡ false) × (word ≡ codes "start") × (form ≡ start_form))
-    ⊎ ((v : Verb) × (is_begun before ≡ true) × (is_open before ≡ true) × (word ≡ text_of v) × (form ≡ form_of v))
+    ⊎ ((v : Verb) × (is_begun before ≡ true) × (is_open before ≡ true) × (word ≡ verb_word v) × (form ≡ form_of v))
 
 -- ---- right and wrong words
 -- the words are as the form has them

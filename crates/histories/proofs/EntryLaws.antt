@@ -26,11 +26,11 @@ use Rattle.unix_calls.specs.declared.Event.{Event}
 use Rattle.unix_calls.specs.declared.Event.TheVariants as events
 use Rattle.unix_calls.specs.declared.Entry.{Entry}
 use Rattle.unix_calls.specs.declared.Entry.TheVariants.{Called, Happened}
-use Rattle.script_words.specs.Table.{errno_named, errno_word, act_word, act_named, change_words, changes_in, verb_named}
+use Rattle.script_words.specs.Table.{errno_named, errno_word, act_word, change_words, changes_in, verb_named}
 use Rattle.script_words.specs.Writing.{word_or_number, signal_word}
 use Rattle.script_words.proofs.Spelled.{act_named-act_word}
 use Rattle.histories.specs.History.{set_words, call_words, status_words, reply_words, event_words}
-use Rattle.histories.specs.MethodLoose.{number_in, signed_in, set_in, status_in, worded_reply_in, reply_in, wait_in, call_of, call_named, call_in, words_before, event_in, said, entry_in}
+use Rattle.histories.specs.MethodLoose.{number_in, signed_in, set_in, status_in, worded_reply_in, reply_in, wait_in, call_of, call_in, words_before, event_in, said, entry_in}
 use Rattle.histories.specs.Reading.{entry_words, CallFits, StatusFits, ReplyFits, Fits}
 use Rattle.std.proofs.Math.Seq.{drop-append_seam}
 use Rattle.histories.proofs.LooseLaws.{number-decimal, number-read, number-other, signed-read, signal_number-read, signal-read, set-read, word-not_number, small-pos}

@@ -4,7 +4,6 @@ use Rattle.std.proofs.Math.Seq.{take-length}
 use Rattle.unix_calls.specs.declared.Entry.{Entry}
 use Rattle.std.specs.List.{list_all, flat_map}
 use Rattle.std.specs.Fmt.{decimal}
-use Rattle.byte_ends.specs.Text.{words}
 use Rattle.script_words.specs.Words.{Word, Row}
 use Rattle.histories.specs.declared.stamped.Stamped.{Stamped}
 use Rattle.histories.specs.Reading.{AreWords, SpellsEntry}

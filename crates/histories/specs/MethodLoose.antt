@@ -1,5 +1,5 @@
 -- Method of the reader of lines, and no part of what a line means: what the words of a line seem to say, read without care. What is written of it then decides whether they say it.
-use Rattle.std.specs.Prelude.{ℕ, ◌%◌, nat_lt, ℤ, pos, neg_ℤ, Bool, false, not, ◌==◌, if◌then◌else◌, List, [], ◌∷◌, length, take, drop, codes, fold, take_while, Option, Some, None, unwrap_or}
+use Rattle.std.specs.Prelude.{ℕ, ◌%◌, nat_lt, ℤ, pos, neg_ℤ, Bool, false, not, ◌==◌, if◌then◌else◌, [], ◌∷◌, length, take, drop, codes, fold, take_while, Option, Some, None, unwrap_or}
 use Rattle.std.specs.Str.Parse.{digits_value}
 use Rattle.unix_names.specs.declared.Signal.{Signal}
 use Rattle.unix_names.specs.declared.Signal.TheVariants.{Hup}

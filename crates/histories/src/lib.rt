@@ -9,6 +9,6 @@ mod reader;
 mod stamped;
 mod writer;
 
-pub use reader::{TextRefusal, read_history};
+pub use reader::{BadLine, read_history};
 pub use stamped::{Stamped, put_history_two, read_history_two};
 pub use writer::put_history;

@@ -1,61 +1,44 @@
 // Reading a history.
-ghost use Rattle.std.specs.Prelude.{◌≡◌, ◌≤◌, ◌<◌, ◌^◌, ◌+◌, ℕ, length, drop, slice_range, IfOk, OnOk, Err};
+ghost use Rattle.std.specs.Prelude.{◌≡◌, ◌≤◌, ◌<◌, ◌^◌, ◌+◌, length, drop, slice_range, IfOk, OnOk, Err};
 ghost use Rattle.byte_ends.specs.Text.{lines};
-ghost use Rattle.histories.specs.declared.reader.TextRefusal.TheVariants.{NoMemory as OutOfMemory};
+ghost use Rattle.histories.specs.declared.reader.BadLine.{BadLine as BadAt};
 ghost use Rattle.histories.specs.Reading.{IsHistory, IsFirstBad, IsHistoryOf, IsFirstBadOf, IsEndBad, Ends};
 
 use crate::entries::entry_of;
 use crate::kinds::{is_last, is_only};
 use byte_ends::{next_line, words_of};
 use file_parts::Span;
-use script_words::is_skipped;
-use std::alloc::{AllocError, AllocFailed, Global};
+use script_words::{ReadRefusal, is_skipped};
+use std::alloc::{AllocError, Global};
 use std::fmt;
 use unix_calls::Entry;
 
-/// Why a history was not read.
+/// The first line of a part at which it is no history, counted from 1 from the file's first line.
 #[derive(Clone, Copy, Debug, PartialEq, Eq)]
-pub enum TextRefusal {
-    BadLine(u32),
-    NoMemory,
+pub struct BadLine {
+    pub line: u32,
 }
 
-impl fmt::Display for TextRefusal {
+impl fmt::Display for BadLine {
     ghost use Rattle.std.specs.Prelude.{Some};
-    ghost use Rattle.histories.specs.Told.{refusal_text};
+    ghost use Rattle.histories.specs.Told.{bad_line_text};
 
-    ghost output = { λ refusal. Some (refusal_text refusal) };
+    ghost output = { λ bad. Some (bad_line_text bad.line) };
 
     fn fmt<W: fmt::Write>(&self, f: &mut fmt::Formatter<W>) -> fmt::Result {
-        match *self {
-            TextRefusal::BadLine(line) => write!(f, "bad text at line {line}"),
-            TextRefusal::NoMemory => write!(f, "out of memory"),
-        }
+        let line = self.line;
+        write!(f, "bad text at line {line}")
     }
 }
 
-impl std::error::Error for TextRefusal {}
-
-impl From<AllocError> for TextRefusal {
-    ghost from_gives = { λ _ e. e ≡ OutOfMemory };
-
-    fn from(_e: AllocError) -> TextRefusal {
-        TextRefusal::NoMemory
-    }
-}
-
-impl<T: Drop> From<AllocFailed<T>> for TextRefusal {
-    ghost from_gives = { λ _ e. e ≡ OutOfMemory };
-
-    fn from(_e: AllocFailed<T>) -> TextRefusal {
-        TextRefusal::NoMemory
-    }
-}
-
-/// The entries of a part of a file, up to the end of its history. `BadLine` comes exactly where the part is no history of any entries, with the first line at which it stops being one.
+/// The entries of a part of a file, up to the end of its history. `Bad` comes exactly where the part is no history of any entries, with the first line at which it stops being one.
 ///
 /// The part lies in the bytes, and its first line is from 1 to 2^31. There are fewer than 2^31 bytes.
-pub fn read_history(alloc: Global, bytes: &[u8], part: Span) -> Result<Vec<Entry>, TextRefusal>
+pub fn read_history(
+    alloc: Global,
+    bytes: &[u8],
+    part: Span,
+) -> Result<Vec<Entry>, ReadRefusal<BadLine>>
     requires few { length bytes.now < 2 ^ 31 }
     requires order { part.from ≤ part.to }
     requires within { part.to ≤ length bytes.now }
@@ -63,7 +46,7 @@ pub fn read_history(alloc: Global, bytes: &[u8], part: Span) -> Result<Vec<Entry
     ensures entries { let ls = lines (slice_range bytes.now part.from part.to) in
         IfOk result (λ v. IsHistory ls v.items) }
     ensures bad { let ls = lines (slice_range bytes.now part.from part.to) in
-        (line : ℕ) → result ≡ Err (TextRefusal.BadLine line) → IsFirstBad ls part.first_line line }
+        (bad : BadAt) → result ≡ Err (ReadRefusal.Bad bad) → IsFirstBad ls part.first_line bad.line }
 {
     read_values(alloc, &bytes[part.from..part.to], 0, part.first_line)
 }
@@ -98,12 +81,12 @@ pub fn read_values<M: Meaning>(
     text: &[u8],
     from: usize,
     first: u32,
-) -> Result<Vec<M>, TextRefusal>
+) -> Result<Vec<M>, ReadRefusal<BadLine>>
     requires few { length text.now < 2 ^ 31 }
     requires within { from ≤ length text.now }
     requires first { first ≤ 2 ^ 31 + from }
     ensures values { IfOk result (λ v. IsHistoryOf M.means (lines (drop from text.now)) v.items) }
-    ensures bad { (line : ℕ) → result ≡ Err (TextRefusal.BadLine line) → IsFirstBadOf M.means (lines (drop from text.now)) first line }
+    ensures bad { (bad : BadAt) → result ≡ Err (ReadRefusal.Bad bad) → IsFirstBadOf M.means (lines (drop from text.now)) first bad.line }
 {
     let mut values = Vec::new(alloc);
     let mut at = from;
@@ -122,11 +105,11 @@ pub fn read_values<M: Meaning>(
             match M::read(alloc, line, &words) {
                 Ok(Some(value)) => {
                     if values.push(value).is_err() {
-                        return Err(TextRefusal::NoMemory);
+                        return Err(ReadRefusal::NoMemory);
                     }
                 }
-                Ok(None) => return Err(TextRefusal::BadLine(number)),
-                Err(_) => return Err(TextRefusal::NoMemory),
+                Ok(None) => return Err(ReadRefusal::Bad(BadLine { line: number })),
+                Err(_) => return Err(ReadRefusal::NoMemory),
             }
         }
         at = next;
@@ -136,12 +119,12 @@ pub fn read_values<M: Meaning>(
 }
 
 // Passes where the lines from a place on say nothing, up to the end or to a schedule.
-fn ends(alloc: Global, text: &[u8], from: usize, first: u32) -> Result<(), TextRefusal>
+fn ends(alloc: Global, text: &[u8], from: usize, first: u32) -> Result<(), ReadRefusal<BadLine>>
     requires few { length text.now < 2 ^ 31 }
     requires within { from ≤ length text.now }
     requires first { first ≤ 2 ^ 31 + from }
     ensures good { OnOk result (Ends (lines (drop from text.now))) }
-    ensures bad { (line : ℕ) → result ≡ Err (TextRefusal.BadLine line) → IsEndBad (lines (drop from text.now)) first line }
+    ensures bad { (bad : BadAt) → result ≡ Err (ReadRefusal.Bad bad) → IsEndBad (lines (drop from text.now)) first bad.line }
 {
     let mut at = from;
     let mut number = first;
@@ -151,7 +134,7 @@ fn ends(alloc: Global, text: &[u8], from: usize, first: u32) -> Result<(), TextR
             if is_only(&words, "schedule") {
                 return Ok(());
             }
-            return Err(TextRefusal::BadLine(number));
+            return Err(ReadRefusal::Bad(BadLine { line: number }));
         }
         at = next;
         number += 1;

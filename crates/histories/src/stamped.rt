@@ -4,16 +4,17 @@ ghost use Rattle.std.specs.Fmt.{decimal};
 ghost use Rattle.std.specs.String.{string_bytes};
 ghost use Rattle.byte_ends.specs.Text.{lines};
 ghost use Rattle.unix_calls.specs.Calls.{IsEntry};
+ghost use Rattle.histories.specs.declared.reader.BadLine.{BadLine as BadAt};
 ghost use Rattle.histories.specs.Reading.{AreWords};
 ghost use Rattle.histories.specs.MethodNumeral.{begins_otherwise};
 ghost use Rattle.histories.specs.Stamped.{stamped_line, text_two, SpellsStamped, is_format_two, IsFormatTwo, HasFormatTwo, IsHistoryTwo, IsFirstBadTwo};
 
 use crate::entries::entry_of;
-use crate::reader::{Meaning, TextRefusal, read_values};
+use crate::reader::{BadLine, Meaning, read_values};
 use crate::writer::{put_entry, put_last};
 use byte_ends::{next_line, words_of};
 use file_parts::Span;
-use script_words::is_word;
+use script_words::{ReadRefusal, is_word};
 use std::alloc::{AllocError, Global};
 use unix_calls::Entry;
 use unix_names::NoMemory;
@@ -54,14 +55,14 @@ fn put_stamped(text: &mut String, stamped: &Stamped) -> Result<(), AllocError>
     put_entry(text, &stamped.entry)
 }
 
-/// The stamped entries of a part of a file, up to the end of its history. None exactly where the part's first line is not `format 2`. `BadLine` comes exactly where the lines behind that are no history of any stamped entries, with the first line at which they stop being one.
+/// The stamped entries of a part of a file, up to the end of its history. None exactly where the part's first line is not `format 2`. `Bad` comes exactly where the lines behind that are no history of any stamped entries, with the first line at which they stop being one.
 ///
 /// The part lies in the bytes, and its first line is from 1 to 2^31. There are fewer than 2^31 bytes.
 pub fn read_history_two(
     alloc: Global,
     bytes: &[u8],
     part: Span,
-) -> Result<Option<Vec<Stamped>>, TextRefusal>
+) -> Result<Option<Vec<Stamped>>, ReadRefusal<BadLine>>
     requires few { length bytes.now < 2 ^ 31 }
     requires order { part.from ≤ part.to }
     requires within { part.to ≤ length bytes.now }
@@ -71,7 +72,7 @@ pub fn read_history_two(
     ensures other { let ls = lines (slice_range bytes.now part.from part.to) in
         IfOk result (λ o. IfNone o (¬ HasFormatTwo ls)) }
     ensures bad { let ls = lines (slice_range bytes.now part.from part.to) in
-        (line : ℕ) → result ≡ Err (TextRefusal.BadLine line) → IsFirstBadTwo ls part.first_line line }
+        (bad : BadAt) → result ≡ Err (ReadRefusal.Bad bad) → IsFirstBadTwo ls part.first_line bad.line }
 {
     let text = &bytes[part.from..part.to];
     match behind_format_line(alloc, text)? {

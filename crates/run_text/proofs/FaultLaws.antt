@@ -1,5 +1,6 @@
 -- the fault of a schedule that is told is the least one
 use Rattle.std.proofs.Common.{◌≡◌, ◌⊎◌, inl, inr, ℕ, zero, suc, ◌+◌, ◌<◌, ◌≤◌, nat_le, Bool, true, false, List, [], ◌∷◌, ◌++◌, take, fold, refl, ap, sym, subst, ◌∙◌, arith, Option, Some, None, Result, Ok, Err}
+use Rattle.unix_calls.specs.declared.limits.TheConstants.{MOST_TURNS}
 use Rattle.std.specs.Prelude.{if◌then◌else◌, slice_get}
 use Rattle.std.specs.Str.{is_utf8}
 use Rattle.std.proofs.lemmas.Bool.{cases_Bool}
@@ -26,7 +27,7 @@ counts_one line a b (inr x) (inr y) = x.1 ∙ sym y.1
 -- a fault of these lines, where so many turns stand before them
 abbrev HasFaultFrom : ℕ → ℕ → List (List ℕ) → ℕ → Aspect → Kind → Type 0
 HasFaultFrom nodes before lines k turns kind =
-    (kind ≡ TooManyTurns) × (line : List ℕ) × (slice_get lines k ≡ Some line) × (total : ℕ) × SumTo (take (suc k) lines) total × (200000 < before + total)
+    (kind ≡ TooManyTurns) × (line : List ℕ) × (slice_get lines k ≡ Some line) × (total : ℕ) × SumTo (take (suc k) lines) total × (MOST_TURNS < before + total)
 HasFaultFrom nodes before lines k text kind = HasFault nodes lines k text kind
 HasFaultFrom nodes before lines k wording kind = HasFault nodes lines k wording kind
 
@@ -60,7 +61,7 @@ module _ (nodes : ℕ) (l : List ℕ) (ls : List (List ℕ)) (before count : ℕ
 -- ---- a line without a fault
 record Clean (nodes before : ℕ) (l : List ℕ) (count : ℕ) : Type 0 where
   counts : CountsAs l count
-  few : before + count ≤ 200000
+  few : before + count ≤ MOST_TURNS
   utf8 : is_utf8 l ≡ true
   right : (kind : Kind) → ¬ IsWrong nodes (words l) kind
 
@@ -101,7 +102,7 @@ LineTold nodes before l (Ok (Some t)) = Clean nodes before l (turns_in t)
 LineTold nodes before l (Err kind) =
     ((kind ≡ NotUtf8) × (is_utf8 l ≡ false))
     ⊎ ((is_utf8 l ≡ true) × IsWrong nodes (words l) kind)
-    ⊎ ((kind ≡ TooManyTurns) × (is_utf8 l ≡ true) × ((other : Kind) → ¬ IsWrong nodes (words l) other) × (count : ℕ) × CountsAs l count × (200000 < before + count))
+    ⊎ ((kind ≡ TooManyTurns) × (is_utf8 l ≡ true) × ((other : Kind) → ¬ IsWrong nodes (words l) other) × (count : ℕ) × CountsAs l count × (MOST_TURNS < before + count))
 
 skipped_right : (nodes : ℕ) (row : Row) (kind : Kind) → is_skipped row ≡ true → IsWrong nodes row kind → ⊥
 skipped_right nodes [] kind s w = w
@@ -109,7 +110,7 @@ skipped_right nodes (x ∷ ws) kind s w = let broken = w.0 in absurd (cc)
 
 counted_told : (nodes before : ℕ) (l : List ℕ) (t : Turn) → is_utf8 l ≡ true → Told nodes (words l) (Ok t) → LineTold nodes before l (counted before t)
 unfolding counted
-counted_told nodes before l t u told = elim (cases_Bool (nat_le (before + turns_in t) 200000)) [
+counted_told nodes before l t u told = elim (cases_Bool (nat_le (before + turns_in t) MOST_TURNS)) [
   | inl le ↦ rw le (record { counts = inl (t, told.0, refl); few = grind (arith, nat_tests); utf8 = u; right = told.1 })
   | inr more ↦ rw more (inr (inr (refl, u, told.1, turns_in t, inl (t, told.0, refl), grind (arith, nat_tests))))
 ]
@@ -118,7 +119,7 @@ read_told : (nodes before : ℕ) (l : List ℕ) (r : Result Turn Kind) → is_ut
 read_told nodes before l (Ok t) u told = counted_told nodes before l t u told
 read_told nodes before l (Err kind) u told = inr (inl (u, told))
 
-line_told : (nodes before : ℕ) (l : List ℕ) → before ≤ 200000 → LineTold nodes before l (read_turn nodes before l)
+line_told : (nodes before : ℕ) (l : List ℕ) → before ≤ MOST_TURNS → LineTold nodes before l (read_turn nodes before l)
 unfolding read_turn
 line_told nodes before l few = elim (cases_Bool (is_utf8 l)) [
   | inr broken ↦ rw broken (inl (refl, broken))
@@ -179,7 +180,7 @@ ok_err : {A : Type 0} (x : A) (y : Fault) → ◌≡◌ {A = Result A Fault} (Ok
 ok_err x y e = cc
 
 abbrev Rest : ℕ → List (List ℕ) → Fault → Type 0
-Rest nodes ls fault = (t : SoFar) → t.count ≤ 200000 → turns_of (fold (after_line nodes) (Ok t) ls) ≡ Err fault → LeastFrom nodes t.count t.number ls fault
+Rest nodes ls fault = (t : SoFar) → t.count ≤ MOST_TURNS → turns_of (fold (after_line nodes) (Ok t) ls) ≡ Err fault → LeastFrom nodes t.count t.number ls fault
 
 told_next : (nodes : ℕ) (l : List ℕ) (ls : List (List ℕ)) (s : SoFar) (fault : Fault) → Rest nodes ls fault → (r : Result (Option Turn) Kind) → LineTold nodes s.count l r
     → turns_of (fold (after_line nodes) (added s r) ls) ≡ Err fault → LeastFrom nodes s.count s.number (l ∷ ls) fault
@@ -200,7 +201,7 @@ told_least nodes (l ∷ ls) fault s few e = told_next nodes l ls s fault (told_l
 
 -- lines that are read have no fault
 abbrev NoFaults : ℕ → List (List ℕ) → List Turn → Type 0
-NoFaults nodes ls ts = (t : SoFar) → t.count ≤ 200000 → turns_of (fold (after_line nodes) (Ok t) ls) ≡ Ok ts → (k : ℕ) (aspect : Aspect) (kind : Kind) → HasFaultFrom nodes t.count ls k aspect kind → ⊥
+NoFaults nodes ls ts = (t : SoFar) → t.count ≤ MOST_TURNS → turns_of (fold (after_line nodes) (Ok t) ls) ≡ Ok ts → (k : ℕ) (aspect : Aspect) (kind : Kind) → HasFaultFrom nodes t.count ls k aspect kind → ⊥
 
 nothing_at : (k : ℕ) (line : List ℕ) → slice_get [] k ≡ Some line → ⊥
 nothing_at zero line e = cc

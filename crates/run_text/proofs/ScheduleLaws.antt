@@ -1,5 +1,6 @@
 -- a schedule that was written is read back
 use Rattle.std.proofs.Common.{◌≡◌, ℕ, ◌+◌, ◌^◌, ◌<◌, ◌≤◌, true, false, List, [], ◌∷◌, ◌++◌, length, map, fold, Option, Some, Result, Ok, refl, ap, sym, ◌∙◌, arith, append_assoc, append-nil}
+use Rattle.unix_calls.specs.declared.limits.TheConstants.{MOST_TURNS}
 use Rattle.std.specs.Prelude.{All}
 use Rattle.std.specs.List.{list_all, flat_map}
 use Rattle.std.specs.Fmt.{decimal}
@@ -75,12 +76,12 @@ said-word (Push n k) ws = refl
 said-word (Take n m) ws = refl
 said-word (Auto k) ws = refl
 
-count-read : (before : ℕ) (t : Turn) → before + turns_in t ≤ 200000 → counted before t ≡ Ok (Some t)
+count-read : (before : ℕ) (t : Turn) → before + turns_in t ≤ MOST_TURNS → counted before t ≡ Ok (Some t)
 unfolding counted
 count-read before t few = grind (arith, nat_tests)
 
 -- the line of a turn is read as it
-line-read : (nodes before : ℕ) (t : Turn) → nodes ≤ 2 ^ 32 → HasNodes nodes t → before + turns_in t ≤ 200000 → read_turn nodes before (turn_line t) ≡ Ok (Some t)
+line-read : (nodes before : ℕ) (t : Turn) → nodes ≤ 2 ^ 32 → HasNodes nodes t → before + turns_in t ≤ MOST_TURNS → read_turn nodes before (turn_line t) ≡ Ok (Some t)
 unfolding read_turn
 line-read nodes before t small fit few =
     let some : turns_in t < 2 ^ 32 = omega arith in
@@ -88,7 +89,7 @@ line-read nodes before t small fit few =
     let row = words-spaced (turn_word t) (turn_words t) (plain-word t) (plain-turn nodes t small fit some) in
     rw (utf8, row, said-word t (turn_words t), turn-read nodes t small fit some) (count-read before t few)
 
-lines-read : (nodes : ℕ) (s : SoFar) (ts : List Turn) → nodes ≤ 2 ^ 32 → All (HasNodes nodes) ts → s.count + turns_total ts ≤ 200000
+lines-read : (nodes : ℕ) (s : SoFar) (ts : List Turn) → nodes ≤ 2 ^ 32 → All (HasNodes nodes) ts → s.count + turns_total ts ≤ MOST_TURNS
     → turns_of (fold (after_line nodes) (Ok s) (map turn_line ts)) ≡ Ok (s.turns ++ ts)
 lines-read nodes s [] small fit few = ap (λ (ts : List Turn). Ok ts) (sym (append-nil s.turns))
 lines-read nodes s (t ∷ ts) small fit few =
@@ -106,7 +107,7 @@ turn-lines nodes (t ∷ ts) small fit few = (
 )
 
 -- a schedule that was written is read back as it was
-pub schedule-written : (nodes number : ℕ) (ts : List Turn) → nodes ≤ 2 ^ 32 → All (HasNodes nodes) ts → turns_total ts ≤ 200000
+pub schedule-written : (nodes number : ℕ) (ts : List Turn) → nodes ≤ 2 ^ 32 → All (HasNodes nodes) ts → turns_total ts ≤ MOST_TURNS
     → schedule nodes number (lines (schedule_text ts)) ≡ Ok ts
 unfolding schedule
 schedule-written nodes number ts small fit few =

@@ -1,5 +1,6 @@
 -- The faults of a schedule, each by its own condition: at which line it stands, and where in the order of the faults of that line.
 use Rattle.std.specs.Prelude.{◌≡◌, ◌⊎◌, ◌↔◌, ℕ, suc, ◌+◌, ◌<◌, ◌≤◌, false, List, [], ◌∷◌, take, codes, slice_get, Some, Ok, Err}
+use Rattle.unix_calls.specs.declared.limits.TheConstants.{MOST_TURNS}
 use Rattle.std.specs.Str.{is_utf8}
 use Rattle.std.specs.Str.Parse.{digits_value}
 use Rattle.byte_ends.specs.Text.{IsNumber, words}
@@ -89,7 +90,7 @@ abbrev pub HasFault : ℕ → List (List ℕ) → ℕ → Aspect → Kind → Ty
 HasFault nodes lines k text kind = (kind ≡ NotUtf8) × (line : List ℕ) × (slice_get lines k ≡ Some line) × (is_utf8 line ≡ false)
 HasFault nodes lines k wording kind = (line : List ℕ) × (slice_get lines k ≡ Some line) × IsWrong nodes (words line) kind
 HasFault nodes lines k turns kind =
-    (kind ≡ TooManyTurns) × (line : List ℕ) × (slice_get lines k ≡ Some line) × (total : ℕ) × SumTo (take (suc k) lines) total × (200000 < total)
+    (kind ≡ TooManyTurns) × (line : List ℕ) × (slice_get lines k ≡ Some line) × (total : ℕ) × SumTo (take (suc k) lines) total × (MOST_TURNS < total)
 
 -- one fault is this one, or stands behind it: at a later line, or at its line in a later aspect
 abbrev pub IsNotBefore : ℕ → Aspect → Kind → ℕ → Aspect → Kind → Type 0

@@ -1,5 +1,6 @@
 -- Schedules: a turn on each line.
 use Rattle.std.specs.Prelude.{ℕ, ◌+◌, ◌<◌, nat_le, if◌then◌else◌, List, [], ◌∷◌, ◌++◌, codes, fold, Option, Some, None, Result, Ok, Err}
+use Rattle.unix_calls.specs.declared.limits.TheConstants.{MOST_TURNS}
 use Rattle.std.specs.List.{flat_map}
 use Rattle.std.specs.Fmt.{decimal}
 use Rattle.std.specs.Str.{is_utf8}
@@ -24,7 +25,7 @@ turn_of nodes row =
 
 -- a turn that comes behind so many: at most 200,000 in all
 unfoldable pub counted : ℕ → Turn → Result (Option Turn) Kind
-counted before turn = if nat_le (before + turns_in turn) 200000 then Ok (Some turn) else Err TooManyTurns
+counted before turn = if nat_le (before + turns_in turn) MOST_TURNS then Ok (Some turn) else Err TooManyTurns
 
 -- what a line says behind so many turns; a skipped line says nothing
 unfoldable pub read_turn : ℕ → ℕ → List ℕ → Result (Option Turn) Kind

@@ -4,4 +4,4 @@
 pub mod laws;
 mod schedule;
 
-pub use schedule::{MOST_TURNS, put_schedule, read_schedule, turns_in};
+pub use schedule::{put_schedule, read_schedule, turns_in};

@@ -11,11 +11,8 @@ use script_words::{
     Fault, Kind, ReadRefusal, ended, is_skipped, is_utf8, is_word, node, number, word_at,
 };
 use std::alloc::{AllocError, Global};
-use unix_calls::Turn;
+use unix_calls::{MOST_TURNS, Turn};
 use unix_names::NoMemory;
-
-/// The most turns that a schedule may stand for.
-pub const MOST_TURNS: u64 = 200_000;
 
 /// The turns of a part of a file, for a cluster of so many nodes, or the least fault of the part.
 ///
@@ -62,9 +59,9 @@ pub fn read_schedule(
 #[tactic(auto, unfolding(crate::specs::Schedule::read_turn))]
 fn read_turn(nodes: u32, before: u64, line: &[u8], words: &[&[u8]]) -> Result<Option<Turn>, Kind>
     requires words { map (λ w. w.now) words.now ≡ words_in line.now }
-    requires before { before ≤ 200000 }
+    requires before { before ≤ MOST_TURNS }
     ensures value { result ≡ spec.read_turn nodes before line.now }
-    ensures few { IfOk result (λ o. IfSome o (λ t. spec.HasNodes nodes t × (before + spec.turns_in t ≤ 200000))) }
+    ensures few { IfOk result (λ o. IfSome o (λ t. spec.HasNodes nodes t × (before + spec.turns_in t ≤ MOST_TURNS))) }
 {
     if !is_utf8(line) {
         return Err(Kind::NotUtf8);
@@ -77,11 +74,11 @@ fn read_turn(nodes: u32, before: u64, line: &[u8], words: &[&[u8]]) -> Result<Op
 
 #[tactic(auto, unfolding(crate::specs::Schedule::counted))]
 fn counted(before: u64, turn: Turn) -> Result<Option<Turn>, Kind>
-    requires { before ≤ 200000 }
+    requires { before ≤ MOST_TURNS }
     ensures value { result ≡ spec.counted before turn }
-    ensures few { IfOk result (λ o. IfSome o (λ t. (t ≡ turn) × (before + spec.turns_in t ≤ 200000))) }
+    ensures few { IfOk result (λ o. IfSome o (λ t. (t ≡ turn) × (before + spec.turns_in t ≤ MOST_TURNS))) }
 {
-    if before + turns_in(turn) <= MOST_TURNS {
+    if before + turns_in(turn) <= u64::from(MOST_TURNS) {
         Ok(Some(turn))
     } else {
         Err(Kind::TooManyTurns)

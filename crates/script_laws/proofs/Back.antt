@@ -24,7 +24,9 @@ use Rattle.unix_calls.specs.declared.Statement.TheVariants as statement
 use Rattle.unix_calls.specs.declared.World.{World}
 use Rattle.unix_calls.specs.Valid.{IsNode, IsArgument, IsStatement}
 use Rattle.script_words.specs.Words.{Row}
-use Rattle.script_writer.specs.Written.{script_name, variable_name, arg_word, target_word, selector_word, change_words, signal_or_number, act_word, site_words, wait_word, statement_words, script_rows, scripts_rows, uid_words, with_words, joined_words, start_row, file_rows, spelled, file_text}
+use Rattle.script_writer.specs.Written.{script_name, variable_name, arg_word, target_word, selector_word, site_words, wait_word, statement_words, script_rows, scripts_rows, uid_words, with_words, joined_words, start_row, file_rows, spelled, file_text}
+use Rattle.script_words.specs.Table.{change_words, act_word}
+use Rattle.script_words.specs.Writing.{word_or_number}
 use Rattle.script_laws.specs.Writable.{IsWrittenStatement, assigned, assigned_by, variables_of, AreInOrder, IsWritable}
 use Rattle.script_laws.specs.Grammar.{Part, IsFile}
 use Rattle.script_laws.specs.Worlds.{WrittenIsRead}
@@ -72,7 +74,7 @@ signals_solid : (ss : List Signal) → list_all is_solid (map word_of ss) ≡ tr
 signals_solid [] = refl
 signals_solid (s ∷ ss) = rw (word_solid s, signals_solid ss) refl
 
-signal_solid : (n : ℕ) (o : Option Signal) → n < 2 ^ 32 → is_solid (signal_or_number n o) ≡ true
+signal_solid : (n : ℕ) (o : Option Signal) → n < 2 ^ 32 → is_solid (word_or_number n o) ≡ true
 signal_solid n None lt = decimal_solid n lt
 signal_solid n (Some s) lt = word_solid s
 

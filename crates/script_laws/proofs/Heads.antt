@@ -3,13 +3,13 @@ use Rattle.std.proofs.Common.{◌≡◌, true, false, [], ◌∷◌, refl, sym, 
 use Rattle.std.specs.Prelude.{codes}
 use Rattle.script_reader.specs.declared.names.Names.{Names}
 use Rattle.script_reader.specs.declared.places.Place.{Place}
-use Rattle.script_reader.specs.declared.statements.Verb.{Verb}
-use Rattle.script_reader.specs.declared.statements.Verb.TheVariants as verb
+use Rattle.script_words.specs.declared.table.Verb.{Verb}
+use Rattle.script_words.specs.declared.table.Verb.TheVariants as verb
 use Rattle.script_reader.specs.declared.lines.Head.{Head}
 use Rattle.script_reader.specs.declared.lines.Head.TheVariants as head
 use Rattle.script_reader.specs.declared.lines.Item.{Item}
 use Rattle.script_words.specs.Words.{Word, Row, is_same, word_at, is_skipped}
-use Rattle.script_reader.specs.Statements.{text_of, verb_named}
+use Rattle.script_words.specs.Table.{verb_word, verb_named}
 use Rattle.script_reader.specs.Lines.{head_of, later_line, read_row, nodes_after, placed_after, place_after}
 
 -- a word that says how its line is read
@@ -17,7 +17,7 @@ pub record IsHead (word : Word) (h : Head) : Type 0 where
   pub head : head_of word ≡ h
   pub said : is_skipped (word ∷ []) ≡ false
 
-pub verb_head : (v : Verb) → IsHead (text_of v) (head.Says v)
+pub verb_head : (v : Verb) → IsHead (verb_word v) (head.Says v)
 unfolding head_of verb_named is_same is_skipped
 verb_head verb.Getpid = record { head = refl; said = refl }
 verb_head _ = record { head = refl; said = refl }
@@ -51,6 +51,6 @@ pub row_place : (place : Place) (row : Row) (word : Word) (h : Head) (i : Item) 
 unfolding place_after
 row_place place row word h i w ne is = rw (not_skipped row word w is.said ne, w, is.head) refl
 
-pub verb_some : (v : Verb) → text_of v ≡ [] → ⊥
+pub verb_some : (v : Verb) → verb_word v ≡ [] → ⊥
 verb_some verb.Getpid e = cc
 verb_some _ e = cc

@@ -6,14 +6,15 @@ use Rattle.unix_calls.specs.declared.world.Statement.{Statement}
 use Rattle.script_words.specs.declared.faults.Kind.TheVariants.{NoClusterLine, UnknownWord, TooManyNodes, TooManyScripts, TooManyStatements, TooManyStarts, DoubleName}
 use Rattle.script_reader.specs.declared.names.Names.{Names}
 use Rattle.script_reader.specs.declared.places.Place.{Place}
-use Rattle.script_reader.specs.declared.statements.Verb.{Verb}
+use Rattle.script_words.specs.declared.table.Verb.{Verb}
 use Rattle.script_reader.specs.declared.lines.Head.{Head}
 use Rattle.script_reader.specs.declared.lines.Head.TheVariants as head
 use Rattle.script_reader.specs.declared.lines.Item.{Item}
 use Rattle.script_reader.specs.declared.lines.Item.TheVariants as item
 use Rattle.script_reader.specs.declared.lines.StartLine.{StartLine}
 use Rattle.script_words.specs.Words.{Row, is_same, word_at, name, number, ended, node, is_skipped}
-use Rattle.script_reader.specs.Statements.{text_of, script, statement_of, verb_named}
+use Rattle.script_words.specs.Table.{verb_word, verb_named}
+use Rattle.script_reader.specs.Statements.{script, statement_of}
 use Rattle.script_reader.specs.Lines.{head_of, is_numbered, cluster_line, script_line, end_line, statement_line, start_variable, user, joined, start_words, start_line, later_line, read_row, nodes_after, placed_after, place_after}
 use Rattle.script_laws.proofs.Results.{next_ok, then_ok, else_ok, ended_ok}
 use Rattle.script_laws.proofs.Words.{same_words, BeginsSo, head_word}
@@ -38,7 +39,7 @@ pub data Step (names : Names) (place : Place) (row : Row) (i : Item) (now : Plac
       → i ≡ item.ScriptBegins → now ≡ placed_after place place.nodes head.Script → Step names place row i now
   ends : is_skipped row ≡ false → place.begun ≡ true → word_at row 0 ≡ codes "end" → place.is_open ≡ true → nat_le (length row) 1 ≡ true
       → i ≡ item.ScriptEnds → now ≡ placed_after place place.nodes head.End → Step names place row i now
-  says : (v : Verb) (s : Statement) → is_skipped row ≡ false → place.begun ≡ true → word_at row 0 ≡ text_of v → place.is_open ≡ true → (place.statements == MOST_STATEMENTS) ≡ false
+  says : (v : Verb) (s : Statement) → is_skipped row ≡ false → place.begun ≡ true → word_at row 0 ≡ verb_word v → place.is_open ≡ true → (place.statements == MOST_STATEMENTS) ≡ false
       → statement_of names place v row ≡ Ok s → i ≡ item.Says s → now ≡ placed_after place place.nodes (head.Says v) → Step names place row i now
   starts : (s : StartLine) → is_skipped row ≡ false → place.begun ≡ true → word_at row 0 ≡ codes "start" → (place.starts == MOST_STARTS) ≡ false → place.is_open ≡ false
       → IsStartLine names place row s → i ≡ item.Starts s → now ≡ placed_after place place.nodes head.Start → Step names place row i now
@@ -90,7 +91,7 @@ module _ (names : Names) (place : Place) (row : Row) (i : Item) where
       let is : item.ScriptEnds ≡ i = cc in
       ends skip begun w a.0 ((ended_ok row 1 tt d.0 d.1).0) (sym is) (place_now head.End place.nodes skip h (ap (λ z. nodes_after place.nodes (Ok z)) (sym is)))
 
-  says_now : (v : Verb) → is_skipped row ≡ false → place.begun ≡ true → head_of (word_at row 0) ≡ head.Says v → word_at row 0 ≡ text_of v → statement_line names place v row ≡ Ok i → Here
+  says_now : (v : Verb) → is_skipped row ≡ false → place.begun ≡ true → head_of (word_at row 0) ≡ head.Says v → word_at row 0 ≡ verb_word v → statement_line names place v row ≡ Ok i → Here
   unfolding statement_line
   says_now v skip begun h w e =
       let a = then_ok place.is_open _ UnknownWord i e in

@@ -8,7 +8,7 @@ use Rattle.unix_calls.specs.declared.Start.{Start}
 use Rattle.unix_calls.specs.declared.Statement.{Statement}
 use Rattle.unix_calls.specs.declared.Statement.TheVariants as statement
 use Rattle.script_words.specs.Words.{Word, Row, is_same, word_at}
-use Rattle.script_reader.specs.Statements.{text_of}
+use Rattle.script_words.specs.Table.{verb_word}
 use Rattle.script_reader.specs.Files.{begins_with, words_behind}
 use Rattle.script_laws.specs.Writable.{assigned, assigned_by}
 use Rattle.script_laws.specs.Grammar.{Naming, IsCalled, Spells, Lines, ends, skips, starts, begins, says, closes, Part, silent, opens}
@@ -45,7 +45,7 @@ script_words naming all open' words scs later rows' (begins {names = names'} {sc
     behind (codes "script") 1 (codes "script" ∷ name ∷ []) rows true (begins_so (codes "script" ∷ name ∷ []) (codes "script") (codes "script") true refl script_word.0)
     ∙ ap (λ (ws : List Word). name ∷ ws) (script_words naming all (Some script.statements) names' scs' later rows d)
 script_words naming all open' words scs later rows' (says {statements = ss} s row {rows = rows} h d) =
-    behind (codes "script") 1 row rows false (begins_so row (codes "script") (text_of (verb_of s)) false (first_word naming row s h) (verb_script (verb_of s))) ∙ script_words naming all (Some ss) words scs later rows d
+    behind (codes "script") 1 row rows false (begins_so row (codes "script") (verb_word (verb_of s)) false (first_word naming row s h) (verb_script (verb_of s))) ∙ script_words naming all (Some ss) words scs later rows d
 script_words naming all open' words scs later rows' (closes {rows = rows} d) =
     behind (codes "script") 1 (codes "end" ∷ []) rows false (begins_so (codes "end" ∷ []) (codes "script") (codes "end") false refl script_word.1) ∙ script_words naming all None words scs later rows d
 
@@ -64,7 +64,7 @@ start_words naming all open' words scs later rows' (begins {names = names'} {scr
     subst (λ (ws : List Word). AreCalled naming.variables ws (map (λ s. s.var) later)) (sym (behind (codes "start") 3 (codes "script" ∷ name ∷ []) rows false (begins_so (codes "script" ∷ name ∷ []) (codes "start") (codes "script") false refl start_word.0)))
     (start_words naming all (Some script.statements) names' scs' later rows d)
 start_words naming all open' words scs later rows' (says {statements = ss} s row {rows = rows} h d) =
-    subst (λ (ws : List Word). AreCalled naming.variables ws (map (λ s. s.var) later)) (sym (behind (codes "start") 3 row rows false (begins_so row (codes "start") (text_of (verb_of s)) false (first_word naming row s h) (verb_start (verb_of s)))))
+    subst (λ (ws : List Word). AreCalled naming.variables ws (map (λ s. s.var) later)) (sym (behind (codes "start") 3 row rows false (begins_so row (codes "start") (verb_word (verb_of s)) false (first_word naming row s h) (verb_start (verb_of s)))))
     (start_words naming all (Some ss) words scs later rows d)
 start_words naming all open' words scs later rows' (closes {rows = rows} d) =
     subst (λ (ws : List Word). AreCalled naming.variables ws (map (λ s. s.var) later)) (sym (behind (codes "start") 3 (codes "end" ∷ []) rows false (begins_so (codes "end" ∷ []) (codes "start") (codes "end") false refl start_word.1)))
@@ -75,7 +75,7 @@ start_words naming all open' words scs later rows' (closes {rows = rows} d) =
 abbrev pub forks_of : Option (List Statement) → List Script → List ℕ
 forks_of open' scs = filter_map assigned (statements_of open') ++ flat_map assigned_by scs
 
-fork_mark : (s : Statement) → is_same (text_of (verb_of s)) (codes "fork") ≡ is_some (assigned s)
+fork_mark : (s : Statement) → is_same (verb_word (verb_of s)) (codes "fork") ≡ is_some (assigned s)
 unfolding is_same
 fork_mark (statement.Fork var script at) = refl
 fork_mark (statement.Wait true any minus arg stopped continued) = refl
@@ -103,7 +103,7 @@ fork_words naming all open' words scs later rows' (begins {names = names'} {scri
     subst (λ (ws : List Word). AreCalled naming.variables ws (forks_of None (script ∷ scs'))) (sym (behind (codes "fork") 1 (codes "script" ∷ name ∷ []) rows false (begins_so (codes "script" ∷ name ∷ []) (codes "fork") (codes "script") false refl fork_word.1)))
     (fork_words naming all (Some script.statements) names' scs' later rows d)
 fork_words naming all open' words scs later rows' (says {statements = ss} s row {rows = rows} h d) =
-    subst (λ (ws : List Word). AreCalled naming.variables ws (forks_of (Some (s ∷ ss)) scs)) (sym (behind (codes "fork") 1 row rows (is_some (assigned s)) (begins_so row (codes "fork") (text_of (verb_of s)) (is_some (assigned s)) (first_word naming row s h) (fork_mark s))))
+    subst (λ (ws : List Word). AreCalled naming.variables ws (forks_of (Some (s ∷ ss)) scs)) (sym (behind (codes "fork") 1 row rows (is_some (assigned s)) (begins_so row (codes "fork") (verb_word (verb_of s)) (is_some (assigned s)) (first_word naming row s h) (fork_mark s))))
     (subst (AreCalled naming.variables (cond (is_some (assigned s)) (word_at row 1 ∷ words_behind (codes "fork") 1 rows) (words_behind (codes "fork") 1 rows))) (sym (cons-append (assigned s) (filter_map assigned ss) (flat_map assigned_by scs)))
     (fork_said naming row s (words_behind (codes "fork") 1 rows) (forks_of (Some ss) scs) h (fork_words naming all (Some ss) words scs later rows d)))
 fork_words naming all open' words scs later rows' (closes {rows = rows} d) =

@@ -16,6 +16,7 @@ use Rattle.unix_calls.specs.declared.Arg.{Arg}
 use Rattle.unix_calls.specs.declared.Arg.TheVariants.{Zero, One, Nobody, Own, Maker, Var}
 use Rattle.script_words.specs.Words.{Word, Row, ◌>>=◌, is_same, word_at, is_digit, is_lower, has_name_form, reserved, is_reserved, name, is_number, number, begins_with_digit, signal_number, signal, is_minus_digits, ended, node}
 use Rattle.script_reader.specs.Names.{Table, number_in}
+use Rattle.script_words.specs.Table.{act_named, changes_in}
 use Rattle.script_reader.specs.Statements.{own_variable, variable, group, process, target, wanted_group, selector, changes, act, signals}
 use Rattle.script_words.proofs.Numbers.{is_number-decides}
 use Rattle.list_laws.proofs.Filters.{and_false}
@@ -247,13 +248,13 @@ module _ (t : Table) (naming : Naming) (agrees : Agrees t naming.variables) wher
 
 -- ---- other words
 pub act_read : (act' : Act) → act (act_word act') ≡ Ok act'
-unfolding act is_same
+unfolding act act_named is_same
 act_read Default = refl
 act_read Ignore = refl
 act_read Catch = refl
 
 pub changes_read : (first word : Word) (stopped continued : Bool) → changes (first ∷ word ∷ change_words stopped continued) ≡ Ok (stopped, continued)
-unfolding changes word_at is_same ended
+unfolding changes changes_in is_same
 changes_read first word false false = refl
 changes_read first word true false = refl
 changes_read first word false true = refl

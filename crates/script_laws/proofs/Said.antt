@@ -10,11 +10,12 @@ use Rattle.unix_calls.specs.declared.Statement.TheVariants as statement
 use Rattle.script_words.specs.declared.faults.Kind.TheVariants.{UnknownScript, LaterScript}
 use Rattle.script_reader.specs.declared.names.Names.{Names}
 use Rattle.script_reader.specs.declared.places.Place.{Place}
-use Rattle.script_reader.specs.declared.statements.Verb.{Verb}
-use Rattle.script_reader.specs.declared.statements.Verb.TheVariants as verb
+use Rattle.script_words.specs.declared.table.Verb.{Verb}
+use Rattle.script_words.specs.declared.table.Verb.TheVariants as verb
 use Rattle.script_words.specs.Words.{Word, Row, found, word_at, name, number, signal_number, node}
 use Rattle.script_reader.specs.Names.{number_in}
-use Rattle.script_reader.specs.Statements.{text_of, own_variable, script, earlier_script, process, target, wanted_group, selector, changes, act, signals, site, fork_statement, wait_statement, kill_statement, setpgid_statement, action_statement, mask_statement, migrate_statement, exec_statement, exit_statement, getpgid_statement, getsid_statement, statement_of}
+use Rattle.script_words.specs.Table.{verb_word}
+use Rattle.script_reader.specs.Statements.{own_variable, script, earlier_script, process, target, wanted_group, selector, changes, act, signals, site, fork_statement, wait_statement, kill_statement, setpgid_statement, action_statement, mask_statement, migrate_statement, exec_statement, exit_statement, getpgid_statement, getsid_statement, statement_of}
 use Rattle.script_laws.specs.Grammar.{wait_word, change_words, act_word, IsName, Naming, IsCalled, IsFor, IsArg, Targets, Wants, Selects, IsForSignalNumber, AreForSet, IsSite, Spells}
 use Rattle.script_laws.proofs.Results.{Gives, next, choice, gives, fails, found_there, weaker, anything}
 use Rattle.script_laws.proofs.Understood.{number_understood, node_understood, signal_number_understood, set_understood, own_understood, process_understood, target_understood, wanted_understood, selector_understood, act_understood, TargetsAs, WantsAs, SelectsAs}
@@ -155,7 +156,7 @@ module _ (names : Names) (naming : Naming) (follows : Follows names naming) wher
         next (node place.nodes (word_at row 1)) _ (IsFor (word_at row 1)) Here (node_understood place.nodes (word_at row 1)) (λ n f.
         ended_so row 2 (statement.Migrate (record { 0 = n })) Here (λ e. (word_at row 1, row_2 row (codes "migrate") w (λ e. cc) (number_some (word_at row 1) n f) e, f)))
 
-    pub statement_said : (v : Verb) → Begins (text_of v) → Gives (statement_of names place v row) Here
+    pub statement_said : (v : Verb) → Begins (verb_word v) → Gives (statement_of names place v row) Here
     unfolding statement_of
     statement_said verb.Getpid w = ended_so row 1 statement.Getpid Here (λ e. row_1 row (codes "getpid") w (λ e. cc) e)
     statement_said verb.Getppid w = ended_so row 1 statement.Getppid Here (λ e. row_1 row (codes "getppid") w (λ e. cc) e)

@@ -12,7 +12,7 @@ use Rattle.script_reader.specs.declared.lines.Item.{Item}
 use Rattle.script_reader.specs.declared.lines.Item.TheVariants as item
 use Rattle.script_words.specs.Words.{Row}
 use Rattle.script_reader.specs.Lines.{place_after}
-use Rattle.script_reader.specs.Statements.{text_of}
+use Rattle.script_words.specs.Table.{verb_word}
 use Rattle.script_reader.specs.Files.{begins_with, Told, place_behind, said, with_said, body, scripts_of}
 use Rattle.script_laws.proofs.Statements.{AreVariables, IsRead, statement_fits}
 use Rattle.script_laws.proofs.Words.{skipped_script, begins_so, verb_script, script_word}
@@ -30,7 +30,7 @@ script_marked names place row i now (silent k e n) = skipped_script row k ∙ ap
 script_marked names place row i now (opens m k b w nu l lo hi e n) = begins_so row (codes "script") (codes "cluster") false w script_word.3 ∙ ap is_beginning (sym e)
 script_marked names place row i now (begins k b w a o nm d l e n) = begins_so row (codes "script") (codes "script") true w script_word.0 ∙ ap is_beginning (sym e)
 script_marked names place row i now (ends k b w o l e n) = begins_so row (codes "script") (codes "end") false w script_word.1 ∙ ap is_beginning (sym e)
-script_marked names place row i now (says v s k b w o c st e n) = begins_so row (codes "script") (text_of v) false w (verb_script v) ∙ ap is_beginning (sym e)
+script_marked names place row i now (says v s k b w o c st e n) = begins_so row (codes "script") (verb_word v) false w (verb_script v) ∙ ap is_beginning (sym e)
 script_marked names place row i now (starts s k b w c o st e n) = begins_so row (codes "script") (codes "start") false w script_word.2 ∙ ap is_beginning (sym e)
 
 -- ---- what each line adds

@@ -16,7 +16,7 @@ use Rattle.script_reader.specs.declared.lines.Head.TheVariants as head
 use Rattle.script_reader.specs.declared.lines.Item.TheVariants as item
 use Rattle.script_words.specs.Words.{Word, Row, word_at, is_skipped, ended}
 use Rattle.script_reader.specs.Lines.{is_numbered, script_line, end_line, statement_line, start_line, later_line, read_row, place_after, placed_after}
-use Rattle.script_reader.specs.Statements.{text_of}
+use Rattle.script_words.specs.Table.{verb_word}
 use Rattle.script_reader.specs.Files.{Told, place_behind, body, scripts_of, start_of, with_start, judged}
 use Rattle.list_laws.proofs.Finding.{same_number}
 use Rattle.script_laws.specs.Grammar.{Naming, IsCalled, Spells, SpellsStart, Lines, ends, skips, starts, begins, says, closes}
@@ -60,7 +60,7 @@ module _ (names : Names) (naming : Naming) (world : World) (has : HasNaming name
   statement_said : (place : Place) (row : Row) (s : Statement) → place.begun ≡ true → place.is_open ≡ true → place.nodes ≡ world.nodes → place.statements < MOST_STATEMENTS → Spells naming row s → IsStatement world (place.scripts - 1) s → read_row names place row ≡ Ok (item.Says s)
   unfolding later_line statement_line
   statement_said place row s b o n lt h v =
-      row_read names place row (text_of (verb_of s)) (head.Says (verb_of s)) (first_word naming row s h) (verb_some (verb_of s)) (verb_head (verb_of s)) b
+      row_read names place row (verb_word (verb_of s)) (head.Says (verb_of s)) (first_word naming row s h) (verb_some (verb_of s)) (verb_head (verb_of s)) b
       ∙ rw (statement_read names naming has place world n row s h v, o, not_equal place.statements MOST_STATEMENTS (below place.statements lt)) refl
     where
       below : (n : ℕ) → n < MOST_STATEMENTS → n ≡ MOST_STATEMENTS → ⊥
@@ -178,7 +178,7 @@ module _ (names : Names) (naming : Naming) (world : World) (has : HasNaming name
   statement_case words scs later rows ss s row h ih place earlier st =
       let lt : place.statements < MOST_STATEMENTS = room (length ss) place.statements st.fits.1 in
       let r = statement_said place row s st.begun st.is_open st.nodes lt h (All-head (IsStatement world (place.scripts - 1)) s ss st.fits.0) in
-      let p = row_place place row (text_of (verb_of s)) (head.Says (verb_of s)) (item.Says s) (first_word naming row s h) (verb_some (verb_of s)) (verb_head (verb_of s)) in
+      let p = row_place place row (verb_word (verb_of s)) (head.Says (verb_of s)) (item.Says s) (first_word naming row s h) (verb_some (verb_of s)) (verb_head (verb_of s)) in
       let n : (placed_after place place.nodes (head.Says (verb_of s))).statements ≡ place.statements + 1 = ap (λ (b : Bool). cond b (place.statements + 1) place.statements) st.is_open in
       let m : Sense (placed_after place place.nodes (head.Says (verb_of s))) rows (Some ss) scs earlier = ih (placed_after place place.nodes (head.Says (verb_of s))) earlier (record {
         begun = refl;
@@ -192,7 +192,7 @@ module _ (names : Names) (naming : Naming) (world : World) (has : HasNaming name
       }) in
       subst (λ (ts : List Told). Means (works world.scripts) place ts (s ∷ ss) scs earlier world.starts) (sym (row_told names place row rows (item.Says s) (placed_after place place.nodes (head.Says (verb_of s))) r p))
       (more (works world.scripts) place row (item.Says s) (placed_after place place.nodes (head.Says (verb_of s))) (row_tells names (placed_after place place.nodes (head.Says (verb_of s))) rows) ss scs earlier world.starts p refl
-      (begins_so row (codes "script") (text_of (verb_of s)) false (first_word naming row s h) (verb_script (verb_of s))) tt m)
+      (begins_so row (codes "script") (verb_word (verb_of s)) false (first_word naming row s h) (verb_script (verb_of s))) tt m)
     where
       room : (l n : ℕ) → n + suc l ≤ MOST_STATEMENTS → n < MOST_STATEMENTS
       room l n e = omega arith

@@ -1,15 +1,16 @@
 -- statements that are read are statements of the grammar
-use Rattle.std.proofs.Common.{◌≡◌, inl, inr, ℕ, zero, suc, ◌≤◌, Bool, true, false, [], ◌∷◌, length, drop, refl, sym, ap, ◌∙◌, subst, arith, Some, None}
+use Rattle.std.proofs.Common.{◌≡◌, inl, inr, ℕ, zero, suc, ◌≤◌, Bool, true, false, [], ◌∷◌, length, drop, refl, sym, ap, ◌∙◌, subst, arith, Option, Some, None}
 use Rattle.std.specs.Prelude.{codes, nat_le}
 use Rattle.std.proofs.lemmas.Bool.{leb-true}
 use Rattle.unix_names.specs.declared.Signal.{Signal}
 use Rattle.unix_names.specs.declared.Signal.TheVariants.{Hup}
 use Rattle.unix_names.specs.Signals.{word_of}
 use Rattle.script_words.specs.declared.faults.Kind.TheVariants.{UnknownWord}
-use Rattle.script_words.specs.Words.{Word, Row, is_same, word_at, ended, node}
+use Rattle.script_words.specs.Words.{Word, Row, found, is_same, word_at, ended, node}
+use Rattle.script_words.specs.Table.{changes_in}
 use Rattle.script_reader.specs.Statements.{changes, site}
 use Rattle.script_laws.specs.Grammar.{change_words, IsName, IsFor, IsForSignalNumber, IsSite}
-use Rattle.script_laws.proofs.Results.{Gives, next, choice, gives, fails}
+use Rattle.script_laws.proofs.Results.{Gives, next, choice, gives, fails, found_there, weaker}
 use Rattle.script_laws.proofs.Words.{same_words}
 use Rattle.script_laws.proofs.Understood.{node_understood}
 
@@ -70,24 +71,43 @@ pub signal_number_some : (word : Word) (n : ℕ) → IsForSignalNumber word n �
 signal_number_some word n (inl h) e = signal_some h.0 (sym h.1 ∙ e)
 signal_number_some word n (inr h) e = number_some word n h e
 
+some_same : (x y : Bool × Bool) → ◌≡◌ {A = Option (Bool × Bool)} (Some x) (Some y) → x ≡ y
+some_same x y e = cc
+
+none_some : (y : Bool × Bool) → ◌≡◌ {A = Option (Bool × Bool)} None (Some y) → ⊥
+none_some y e = cc
+
+-- the words that ask for changes of a child are those of the grammar
+changes_spelled : (row : Row) (asked : Bool × Bool) → changes_in row ≡ Some asked → row ≡ change_words asked.0 asked.1
+unfolding changes_in
+changes_spelled [] asked e = subst (λ (c : Bool × Bool). [] ≡ change_words c.0 c.1) (some_same (false, false) asked e) refl
+changes_spelled (only ∷ []) asked e = go (is_same only (codes "stopped")) (is_same only (codes "continued")) refl refl
+  where
+    Asked : Bool × Bool → Type 0
+    Asked c = only ∷ [] ≡ change_words c.0 c.1
+
+    go : (s c : Bool) → is_same only (codes "stopped") ≡ s → is_same only (codes "continued") ≡ c → only ∷ [] ≡ change_words asked.0 asked.1
+    go true c es ec = subst Asked (some_same (true, false) asked (rw es at e)) (ap (λ (w : Word). w ∷ []) (same_words only (codes "stopped") es))
+    go false true es ec = subst Asked (some_same (false, true) asked (rw (es, ec) at e)) (ap (λ (w : Word). w ∷ []) (same_words only (codes "continued") ec))
+    go false false es ec = absurd (none_some asked (rw (es, ec) at e))
+changes_spelled (first ∷ second ∷ []) asked e = go (is_same first (codes "stopped")) (is_same second (codes "continued")) refl refl
+  where
+    Asked : Bool × Bool → Type 0
+    Asked c = first ∷ second ∷ [] ≡ change_words c.0 c.1
+
+    go : (s c : Bool) → is_same first (codes "stopped") ≡ s → is_same second (codes "continued") ≡ c → first ∷ second ∷ [] ≡ change_words asked.0 asked.1
+    go true true es ec =
+        subst Asked (some_same (true, true) asked (rw (es, ec) at e))
+        (ap (λ (w : Word). w ∷ second ∷ []) (same_words first (codes "stopped") es) ∙ ap (λ (w : Word). codes "stopped" ∷ w ∷ []) (same_words second (codes "continued") ec))
+    go true false es ec = absurd (none_some asked (rw (es, ec) at e))
+    go false c es ec = absurd (none_some asked (rw es at e))
+changes_spelled (first ∷ second ∷ third ∷ more) asked e = absurd (none_some asked e)
+
 pub change_understood : (row : Row) → Gives (changes row) (λ c. drop 2 row ≡ change_words c.0 c.1)
 unfolding changes
 change_understood row =
-    choice (nat_le (length row) 2) _ _ Changes (λ e. gives (false, false) Changes (dropped row 2 e)) (λ _.
-    choice (is_same (word_at row 2) (codes "stopped")) _ _ Changes (λ s.
-    choice (nat_le (length row) 3) _ _ Changes (λ e. gives (true, false) Changes (there 2 (codes "stopped") s (λ z. cc) ∙ ap (λ (r : Row). codes "stopped" ∷ r) (dropped row 3 e))) (λ _.
-    choice (is_same (word_at row 3) (codes "continued")) _ _ Changes (λ c.
-    ended_so row 4 (true, true) Changes (λ e. there 2 (codes "stopped") s (λ z. cc) ∙ ap (λ (r : Row). codes "stopped" ∷ r) (there 3 (codes "continued") c (λ z. cc) ∙ ap (λ (r : Row). codes "continued" ∷ r) (dropped row 4 e))))
-    (λ _. fails UnknownWord Changes))) (λ _.
-    choice (is_same (word_at row 2) (codes "continued")) _ _ Changes (λ c.
-    ended_so row 3 (false, true) Changes (λ e. there 2 (codes "continued") c (λ z. cc) ∙ ap (λ (r : Row). codes "continued" ∷ r) (dropped row 3 e)))
-    (λ _. fails UnknownWord Changes)))
-  where
-    Changes : Bool × Bool → Type 0
-    Changes c = drop 2 row ≡ change_words c.0 c.1
-
-    there : (k : ℕ) (word : Word) → is_same (word_at row k) word ≡ true → (word ≡ [] → ⊥) → drop k row ≡ word ∷ drop (suc k) row
-    there k word s ne = let w = same_words (word_at row k) word s in opened row k (λ e. ne (sym w ∙ e)) ∙ ap (λ (x : Word). x ∷ drop (suc k) row) w
+    weaker (found (changes_in (drop 2 row)) UnknownWord) (λ c. changes_in (drop 2 row) ≡ Some c) (λ c. drop 2 row ≡ change_words c.0 c.1)
+    (found_there (changes_in (drop 2 row)) UnknownWord) (λ c e. changes_spelled (drop 2 row) c e)
 
 pub site_understood : (nodes : ℕ) (row : Row) → Gives (site nodes row) (IsSite (drop 3 row))
 unfolding site

@@ -15,7 +15,8 @@ use Rattle.text_laws.proofs.Words.{words-spaced, line-spaced}
 use Rattle.text_laws.proofs.Lines.{IsLine, AreLines, lines-written}
 use Rattle.text_laws.proofs.Numbers.{IsNumber-decimal}
 use Rattle.script_words.specs.Words.{Word, Row, is_digit}
-use Rattle.script_writer.specs.Written.{spaced, spelled, line_text}
+use Rattle.script_words.specs.Writing.{spaced}
+use Rattle.script_writer.specs.Written.{spelled, line_text}
 use Rattle.script_laws.proofs.Chosen.{all_digits}
 
 abbrev pub is_fine : ℕ → Bool

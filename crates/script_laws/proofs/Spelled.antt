@@ -15,7 +15,9 @@ use Rattle.unix_calls.specs.declared.Statement.TheVariants as statement
 use Rattle.unix_calls.specs.declared.World.{World}
 use Rattle.unix_calls.specs.Valid.{IsNode, IsArgument, IsStatement, IsValid}
 use Rattle.script_words.specs.Words.{Word, Row}
-use Rattle.script_writer.specs.Written.{script_name, variable_name, arg_word, target_word, selector_word, change_words, signal_or_number, act_word, site_words, wait_word, set_words, statement_words}
+use Rattle.script_writer.specs.Written.{script_name, variable_name, arg_word, target_word, selector_word, site_words, wait_word, statement_words}
+use Rattle.script_words.specs.Table.{change_words, act_word}
+use Rattle.script_words.specs.Writing.{word_or_number, signal_word, member_words}
 use Rattle.script_laws.specs.Writable.{IsTarget, IsWanted, IsSelector, IsWrittenStatement}
 use Rattle.script_laws.specs.Grammar.{Naming, IsCalled, IsFor, IsArg, Targets, Wants, Selects, IsForSignalNumber, IsSite, IsUser, Joins, Spells, SpellsStart, Lines, Part, ends, skips, starts, begins, says, closes, opens}
 use Rattle.script_laws.specs.Grammar as grammar
@@ -44,10 +46,10 @@ same_act Default = refl
 same_act Ignore = refl
 same_act Catch = refl
 
-signal_spelled : (sig : ℕ) → sig < 2 ^ 32 → IsForSignalNumber (signal_or_number sig (signal_of sig)) sig
+signal_spelled : (sig : ℕ) → sig < 2 ^ 32 → IsForSignalNumber (signal_word sig) sig
 signal_spelled sig lt = go (signal_of sig) refl
   where
-    go : (o : Option Signal) → signal_of sig ≡ o → IsForSignalNumber (signal_or_number sig o) sig
+    go : (o : Option Signal) → signal_of sig ≡ o → IsForSignalNumber (word_or_number sig o) sig
     go None e = inr (for_decimal sig lt)
     go (Some s) e = inl (s, refl, number_of-signal_of sig s e)
 
@@ -100,10 +102,10 @@ module _ (world : World) (valid : IsValid world) where
   statement_spelled k (statement.Exit n) few v w = (decimal n, refl, for_decimal n w)
   statement_spelled k (statement.Wait sleeps any minus arg stopped continued) few v w =
       (selector_word any minus arg, ap (λ (r : Row). wait_word sleeps ∷ selector_word any minus arg ∷ r) (same_change stopped continued) ∙ ap (λ (x : Word). x ∷ selector_word any minus arg ∷ grammar.change_words stopped continued) (same_wait sleeps), selector_spelled any minus arg v w)
-  statement_spelled k (statement.Kill minus arg sig) few v w = (target_word minus arg, signal_or_number sig (signal_of sig), refl, target_spelled minus arg v w.0, signal_spelled sig w.1)
+  statement_spelled k (statement.Kill minus arg sig) few v w = (target_word minus arg, signal_word sig, refl, target_spelled minus arg v w.0, signal_spelled sig w.1)
   statement_spelled k (statement.Setpgid pid minus pgid) few v w = (arg_word pid, target_word minus pgid, refl, arg_spelled pid v.0, wanted_spelled minus pgid v.1 w)
   statement_spelled k statement.Setsid few v w = refl
-  statement_spelled k (statement.Action sig act) few v w = (signal_or_number sig (signal_of sig), ap (λ (x : Word). codes "action" ∷ signal_or_number sig (signal_of sig) ∷ x ∷ []) (same_act act), signal_spelled sig w)
-  statement_spelled k (statement.Mask set) few v w = (set_words set, refl, set_spelled set w)
+  statement_spelled k (statement.Action sig act) few v w = (signal_word sig, ap (λ (x : Word). codes "action" ∷ signal_word sig ∷ x ∷ []) (same_act act), signal_spelled sig w)
+  statement_spelled k (statement.Mask set) few v w = (member_words set, refl, set_spelled set w)
   statement_spelled k statement.Pending few v w = refl
   statement_spelled k (statement.Migrate node) few v w = (decimal node.0, refl, for_decimal node.0 (small_node node.0 v))

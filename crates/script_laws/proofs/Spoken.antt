@@ -10,13 +10,14 @@ use Rattle.unix_calls.specs.declared.Statement.TheVariants as statement
 use Rattle.unix_calls.specs.Valid.{IsNode, IsStatement}
 use Rattle.script_reader.specs.declared.names.Names.{Names}
 use Rattle.script_reader.specs.declared.places.Place.{Place}
-use Rattle.script_reader.specs.declared.statements.Verb.{Verb}
-use Rattle.script_reader.specs.declared.statements.Verb.TheVariants as verb
+use Rattle.script_words.specs.declared.table.Verb.{Verb}
+use Rattle.script_words.specs.declared.table.Verb.TheVariants as verb
 use Rattle.script_reader.specs.declared.lines.Item.TheVariants as item
 use Rattle.script_reader.specs.declared.lines.StartLine.{StartLine}
 use Rattle.script_words.specs.Words.{Word, Row, is_same, word_at, ended, node}
 use Rattle.script_reader.specs.Names.{number_in}
-use Rattle.script_reader.specs.Statements.{script, earlier_script, site, fork_statement, wait_statement, kill_statement, setpgid_statement, action_statement, mask_statement, migrate_statement, exec_statement, exit_statement, getpgid_statement, getsid_statement, statement_of, text_of}
+use Rattle.script_reader.specs.Statements.{script, earlier_script, site, fork_statement, wait_statement, kill_statement, setpgid_statement, action_statement, mask_statement, migrate_statement, exec_statement, exit_statement, getpgid_statement, getsid_statement, statement_of}
+use Rattle.script_words.specs.Table.{verb_word}
 use Rattle.script_reader.specs.Lines.{is_numbered, start_variable, user, earlier_start, joined, start_words}
 use Rattle.list_laws.proofs.Finding.{same_number}
 use Rattle.script_laws.specs.Grammar.{Naming, IsCalled, IsSite, Spells, IsUser, Joins, SpellsStart}
@@ -87,7 +88,7 @@ module _ (names : Names) (naming : Naming) (has : HasNaming names naming) (place
   statement_read row (statement.Migrate node) h v = rw (h.1, node_read place.nodes h.0 node.0 h.2 (subst (λ m. node.0 < m) (sym nodes) v)) refl
 
 -- ---- starts
-pub first_word : (naming : Naming) (row : Row) (s : Statement) → Spells naming row s → word_at row 0 ≡ text_of (verb_of s)
+pub first_word : (naming : Naming) (row : Row) (s : Statement) → Spells naming row s → word_at row 0 ≡ verb_word (verb_of s)
 unfolding word_at
 first_word naming row statement.Getpid h = rw h refl
 first_word naming row statement.Getppid h = rw h refl

@@ -16,8 +16,8 @@ use Rattle.unix_calls.specs.declared.world.Statement.TheVariants as statement
 use Rattle.unix_calls.specs.Valid.{IsNode, IsArgument, IsStatement}
 use Rattle.script_words.specs.declared.faults.Kind.{Kind}
 use Rattle.script_words.specs.declared.faults.Kind.TheVariants.{UnknownWord, BadNumber, NoSuchNode, LaterScript}
-use Rattle.script_reader.specs.declared.statements.Verb.{Verb}
-use Rattle.script_reader.specs.declared.statements.Verb.TheVariants as verb
+use Rattle.script_words.specs.declared.table.Verb.{Verb}
+use Rattle.script_words.specs.declared.table.Verb.TheVariants as verb
 use Rattle.script_reader.specs.declared.names.Names.{Names}
 use Rattle.script_reader.specs.declared.places.Place.{Place}
 use Rattle.script_words.specs.Words.{Word, Row, ◌>>=◌, found, is_same, word_at, name, number, is_number, is_digit, begins_with_digit, signal_number, signal, is_minus_digits, node}

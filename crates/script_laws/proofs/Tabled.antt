@@ -6,12 +6,13 @@ use Rattle.std.proofs.lemmas.List.Elements.{All-nil, All-cons}
 use Rattle.unix_calls.specs.declared.Statement.{Statement}
 use Rattle.script_reader.specs.declared.names.Names.{Names}
 use Rattle.script_reader.specs.declared.places.Place.{Place}
-use Rattle.script_reader.specs.declared.statements.Verb.{Verb}
-use Rattle.script_reader.specs.declared.statements.Verb.TheVariants as verb
+use Rattle.script_words.specs.declared.table.Verb.{Verb}
+use Rattle.script_words.specs.declared.table.Verb.TheVariants as verb
 use Rattle.script_reader.specs.declared.lines.Item.{Item}
 use Rattle.script_words.specs.Words.{Word, Row, word_at, name}
 use Rattle.script_reader.specs.Names.{Table, number_in, noted}
-use Rattle.script_reader.specs.Statements.{text_of, own_variable, fork_statement, statement_of}
+use Rattle.script_words.specs.Table.{verb_word}
+use Rattle.script_reader.specs.Statements.{own_variable, fork_statement, statement_of}
 use Rattle.script_reader.specs.Lines.{place_after, start_variable}
 use Rattle.script_reader.specs.Files.{begins_with, words_behind, numbered, listed, Told}
 use Rattle.script_laws.specs.Grammar.{IsName}
@@ -134,7 +135,7 @@ script_named names place row i now (silent k e n) b = no_true _ (skipped_script 
 script_named names place row i now (opens m k bg w nu l lo hi e n) b = no_true _ (begins_so row (codes "script") (codes "cluster") false w script_word.3) b
 script_named names place row i now (begins k bg w a o nm d l e n) b = name_understood (word_at row 1) tt nm
 script_named names place row i now (ends k bg w o l e n) b = no_true _ (begins_so row (codes "script") (codes "end") false w script_word.1) b
-script_named names place row i now (says v s k bg w o c st e n) b = no_true _ (begins_so row (codes "script") (text_of v) false w (verb_script v)) b
+script_named names place row i now (says v s k bg w o c st e n) b = no_true _ (begins_so row (codes "script") (verb_word v) false w (verb_script v)) b
 script_named names place row i now (starts s k bg w c o st e n) b = no_true _ (begins_so row (codes "script") (codes "start") false w script_word.2) b
 
 variable_name : (names : Names) (place : Place) (word : Word) (n : ℕ) → start_variable names place word ≡ Ok n → IsName word
@@ -146,30 +147,30 @@ start_named names place row i now (silent k e n) b = no_true _ (skipped_start ro
 start_named names place row i now (opens m k bg w nu l lo hi e n) b = no_true _ (begins_so row (codes "start") (codes "cluster") false w start_word.3) b
 start_named names place row i now (begins k bg w a o nm d l e n) b = no_true _ (begins_so row (codes "start") (codes "script") false w start_word.0) b
 start_named names place row i now (ends k bg w o l e n) b = no_true _ (begins_so row (codes "start") (codes "end") false w start_word.1) b
-start_named names place row i now (says v s k bg w o c st e n) b = no_true _ (begins_so row (codes "start") (text_of v) false w (verb_start v)) b
+start_named names place row i now (says v s k bg w o c st e n) b = no_true _ (begins_so row (codes "start") (verb_word v) false w (verb_start v)) b
 start_named names place row i now (starts s k bg w c o st e n) b = variable_name names place (word_at row 3) s.var st.var
 
-said_named : (names : Names) (place : Place) (row : Row) (v : Verb) (s : Statement) → statement_of names place v row ≡ Ok s → word_at row 0 ≡ text_of v → begins_with (codes "fork") row ≡ true → IsName (word_at row 1)
+said_named : (names : Names) (place : Place) (row : Row) (v : Verb) (s : Statement) → statement_of names place v row ≡ Ok s → word_at row 0 ≡ verb_word v → begins_with (codes "fork") row ≡ true → IsName (word_at row 1)
 unfolding statement_of fork_statement own_variable
 said_named names place row verb.Fork s e w b =
     let a = next_ok (own_variable names.variables (word_at row 1)) _ s e in
     let n = next_ok (name (word_at row 1)) _ a.0 a.1 in
     name_understood (word_at row 1) n.0 n.1
-said_named names place row verb.Getpid s e w b = no_true _ (begins_so row (codes "fork") (text_of verb.Getpid) false w (verb_fork verb.Getpid (λ e. cc))) b
-said_named names place row verb.Getppid s e w b = no_true _ (begins_so row (codes "fork") (text_of verb.Getppid) false w (verb_fork verb.Getppid (λ e. cc))) b
-said_named names place row verb.Getpgid s e w b = no_true _ (begins_so row (codes "fork") (text_of verb.Getpgid) false w (verb_fork verb.Getpgid (λ e. cc))) b
-said_named names place row verb.Getsid s e w b = no_true _ (begins_so row (codes "fork") (text_of verb.Getsid) false w (verb_fork verb.Getsid (λ e. cc))) b
-said_named names place row verb.Exec s e w b = no_true _ (begins_so row (codes "fork") (text_of verb.Exec) false w (verb_fork verb.Exec (λ e. cc))) b
-said_named names place row verb.Exit s e w b = no_true _ (begins_so row (codes "fork") (text_of verb.Exit) false w (verb_fork verb.Exit (λ e. cc))) b
-said_named names place row verb.Wait s e w b = no_true _ (begins_so row (codes "fork") (text_of verb.Wait) false w (verb_fork verb.Wait (λ e. cc))) b
-said_named names place row verb.Poll s e w b = no_true _ (begins_so row (codes "fork") (text_of verb.Poll) false w (verb_fork verb.Poll (λ e. cc))) b
-said_named names place row verb.Kill s e w b = no_true _ (begins_so row (codes "fork") (text_of verb.Kill) false w (verb_fork verb.Kill (λ e. cc))) b
-said_named names place row verb.Setpgid s e w b = no_true _ (begins_so row (codes "fork") (text_of verb.Setpgid) false w (verb_fork verb.Setpgid (λ e. cc))) b
-said_named names place row verb.Setsid s e w b = no_true _ (begins_so row (codes "fork") (text_of verb.Setsid) false w (verb_fork verb.Setsid (λ e. cc))) b
-said_named names place row verb.Action s e w b = no_true _ (begins_so row (codes "fork") (text_of verb.Action) false w (verb_fork verb.Action (λ e. cc))) b
-said_named names place row verb.Mask s e w b = no_true _ (begins_so row (codes "fork") (text_of verb.Mask) false w (verb_fork verb.Mask (λ e. cc))) b
-said_named names place row verb.Pending s e w b = no_true _ (begins_so row (codes "fork") (text_of verb.Pending) false w (verb_fork verb.Pending (λ e. cc))) b
-said_named names place row verb.Migrate s e w b = no_true _ (begins_so row (codes "fork") (text_of verb.Migrate) false w (verb_fork verb.Migrate (λ e. cc))) b
+said_named names place row verb.Getpid s e w b = no_true _ (begins_so row (codes "fork") (verb_word verb.Getpid) false w (verb_fork verb.Getpid (λ e. cc))) b
+said_named names place row verb.Getppid s e w b = no_true _ (begins_so row (codes "fork") (verb_word verb.Getppid) false w (verb_fork verb.Getppid (λ e. cc))) b
+said_named names place row verb.Getpgid s e w b = no_true _ (begins_so row (codes "fork") (verb_word verb.Getpgid) false w (verb_fork verb.Getpgid (λ e. cc))) b
+said_named names place row verb.Getsid s e w b = no_true _ (begins_so row (codes "fork") (verb_word verb.Getsid) false w (verb_fork verb.Getsid (λ e. cc))) b
+said_named names place row verb.Exec s e w b = no_true _ (begins_so row (codes "fork") (verb_word verb.Exec) false w (verb_fork verb.Exec (λ e. cc))) b
+said_named names place row verb.Exit s e w b = no_true _ (begins_so row (codes "fork") (verb_word verb.Exit) false w (verb_fork verb.Exit (λ e. cc))) b
+said_named names place row verb.Wait s e w b = no_true _ (begins_so row (codes "fork") (verb_word verb.Wait) false w (verb_fork verb.Wait (λ e. cc))) b
+said_named names place row verb.Poll s e w b = no_true _ (begins_so row (codes "fork") (verb_word verb.Poll) false w (verb_fork verb.Poll (λ e. cc))) b
+said_named names place row verb.Kill s e w b = no_true _ (begins_so row (codes "fork") (verb_word verb.Kill) false w (verb_fork verb.Kill (λ e. cc))) b
+said_named names place row verb.Setpgid s e w b = no_true _ (begins_so row (codes "fork") (verb_word verb.Setpgid) false w (verb_fork verb.Setpgid (λ e. cc))) b
+said_named names place row verb.Setsid s e w b = no_true _ (begins_so row (codes "fork") (verb_word verb.Setsid) false w (verb_fork verb.Setsid (λ e. cc))) b
+said_named names place row verb.Action s e w b = no_true _ (begins_so row (codes "fork") (verb_word verb.Action) false w (verb_fork verb.Action (λ e. cc))) b
+said_named names place row verb.Mask s e w b = no_true _ (begins_so row (codes "fork") (verb_word verb.Mask) false w (verb_fork verb.Mask (λ e. cc))) b
+said_named names place row verb.Pending s e w b = no_true _ (begins_so row (codes "fork") (verb_word verb.Pending) false w (verb_fork verb.Pending (λ e. cc))) b
+said_named names place row verb.Migrate s e w b = no_true _ (begins_so row (codes "fork") (verb_word verb.Migrate) false w (verb_fork verb.Migrate (λ e. cc))) b
 
 pub fork_named : (names : Names) (place : Place) (row : Row) (i : Item) (now : Place) → Step names place row i now → begins_with (codes "fork") row ≡ true → IsName (word_at row 1)
 fork_named names place row i now (silent k e n) b = no_true _ (skipped_fork row k) b

@@ -6,6 +6,7 @@ use Rattle.std.specs.Str.Parse.{digits_value}
 use Rattle.std.proofs.lemmas.Bool.{leb-true, and_parts, eqb-true, or_parts}
 use Rattle.std.proofs.lemmas.List.Elements.{All-nil, All-cons}
 use Rattle.unix_names.specs.declared.Signal.{Signal}
+use Rattle.unix_names.specs.declared.Act.{Act}
 use Rattle.unix_names.specs.declared.Act.TheVariants.{Default, Ignore, Catch}
 use Rattle.unix_names.specs.Signals.{number_of, word_of, signal_of, signal_named}
 use Rattle.unix_names.specs.Sets.{added}
@@ -15,13 +16,14 @@ use Rattle.unix_calls.specs.declared.Arg.TheVariants.{Zero, One, Nobody, Own, Ma
 use Rattle.script_words.specs.declared.faults.Kind.{Kind}
 use Rattle.script_words.specs.declared.faults.Kind.TheVariants.{UnknownWord, BadNumber, LongName, NoSuchNode}
 use Rattle.script_words.specs.Words.{Word, Row, ◌>>=◌, found, is_same, is_lower, is_name_byte, has_name_form, reserved, is_reserved, name, is_number, number, begins_with_digit, signal_number, signal, is_minus_digits, node}
+use Rattle.script_words.specs.Table.{act_word as word_of_act, act_named}
 use Rattle.script_reader.specs.Names.{Table, number_in}
 use Rattle.script_reader.specs.Statements.{own_variable, variable, group, process, target, wanted_group, selector, act, signals}
 use Rattle.script_words.proofs.Numbers.{is_number-decides}
 use Rattle.script_laws.specs.Writable.{IsTarget}
 use Rattle.script_laws.specs.Grammar.{act_word, IsName, Naming, IsCalled, IsFor, IsArg, Targets, Wants, Selects, IsForSignal, IsForSignalNumber, AreForSet}
 use Rattle.script_laws.proofs.Results.{Gives, next, choice, gives, fails, found_there, weaker, anything, then_ok}
-use Rattle.script_laws.proofs.Words.{same_words, words_same}
+use Rattle.script_laws.proofs.Words.{same_words, words_same, act_spelled}
 use Rattle.script_words.specs.declared.limits.TheConstants.{LONGEST_NAME}
 
 -- ---- names
@@ -175,9 +177,13 @@ module _ (t : Table) (naming : Naming) (called : (word : Word) (n : ℕ) → num
       choice (is_same word (codes "any")) _ _ (SelectsAs word) (λ e. gives (true, false, Nobody) (SelectsAs word) (same_words word (codes "any") e, refl, refl)) (λ _.
       next (target t word) _ (TargetsAs word) (SelectsAs word) (target_understood word) (λ x h. gives (false, x.0, x.1) (SelectsAs word) h))
 
+-- the word of an action by the grammar is that of the table
+pub act_is : (a : Act) → word_of_act a ≡ act_word a
+act_is Default = refl
+act_is Ignore = refl
+act_is Catch = refl
+
 pub act_understood : (word : Word) → Gives (act word) (λ a. word ≡ act_word a)
 unfolding act
 act_understood word =
-    choice (is_same word (codes "default")) _ _ (λ a. word ≡ act_word a) (λ e. gives Default (λ a. word ≡ act_word a) (same_words word (codes "default") e)) (λ _.
-    choice (is_same word (codes "ignore")) _ _ (λ a. word ≡ act_word a) (λ e. gives Ignore (λ a. word ≡ act_word a) (same_words word (codes "ignore") e)) (λ _.
-    choice (is_same word (codes "catch")) _ _ (λ a. word ≡ act_word a) (λ e. gives Catch (λ a. word ≡ act_word a) (same_words word (codes "catch") e)) (λ _. fails UnknownWord (λ a. word ≡ act_word a))))
+    weaker (found (act_named word) UnknownWord) (λ a. act_named word ≡ Some a) (λ a. word ≡ act_word a) (found_there (act_named word) UnknownWord) (λ a e. act_spelled word a e ∙ act_is a)

@@ -6,13 +6,14 @@ use Rattle.unix_calls.specs.declared.world.Statement.TheVariants as statement
 use Rattle.script_words.specs.declared.faults.Kind.TheVariants.{UnknownWord}
 use Rattle.script_reader.specs.declared.names.Names.{Names}
 use Rattle.script_reader.specs.declared.places.Place.{Place}
-use Rattle.script_reader.specs.declared.statements.Verb.{Verb}
-use Rattle.script_reader.specs.declared.statements.Verb.TheVariants as verb
+use Rattle.script_words.specs.declared.table.Verb.{Verb}
+use Rattle.script_words.specs.declared.table.Verb.TheVariants as verb
 use Rattle.script_reader.specs.declared.lines.Item.{Item}
 use Rattle.script_reader.specs.declared.lines.Item.TheVariants as item
 use Rattle.script_words.specs.Words.{Word, Row, is_same, word_at, name, number, signal_number, node}
 use Rattle.script_reader.specs.Names.{Table, number_in}
-use Rattle.script_reader.specs.Statements.{text_of, own_variable, process, target, wanted_group, selector, changes, act, signals, earlier_script, site, fork_statement, wait_statement, kill_statement, setpgid_statement, action_statement, mask_statement, migrate_statement, exec_statement, exit_statement, getpgid_statement, getsid_statement, statement_of}
+use Rattle.script_words.specs.Table.{verb_word}
+use Rattle.script_reader.specs.Statements.{own_variable, process, target, wanted_group, selector, changes, act, signals, earlier_script, site, fork_statement, wait_statement, kill_statement, setpgid_statement, action_statement, mask_statement, migrate_statement, exec_statement, exit_statement, getpgid_statement, getsid_statement, statement_of}
 use Rattle.script_reader.specs.Files.{begins_with}
 use Rattle.script_laws.specs.Writable.{assigned}
 use Rattle.script_laws.proofs.Results.{Gives, next, gives, ended_here, anything, next_ok, found_ok}
@@ -93,10 +94,10 @@ fork_marked names place row s e w =
     let is : statement.Fork a.0 b.0 c.0 ≡ s = cc in
     subst (λ x. Marked names.variables (codes "fork") 1 row (assigned x)) is (begins_so row (codes "fork") (codes "fork") true w fork_word.0, found_ok (number_in names.variables (word_at row 1)) UnknownWord a.0 n.2)
 
-none_marked : (names : Names) (row : Row) (v : Verb) (s : Statement) → word_at row 0 ≡ text_of v → is_same (text_of v) (codes "fork") ≡ false → IsNoFork s → Marked names.variables (codes "fork") 1 row (assigned s)
-none_marked names row v s w d n = rw n (begins_so row (codes "fork") (text_of v) false w d)
+none_marked : (names : Names) (row : Row) (v : Verb) (s : Statement) → word_at row 0 ≡ verb_word v → is_same (verb_word v) (codes "fork") ≡ false → IsNoFork s → Marked names.variables (codes "fork") 1 row (assigned s)
+none_marked names row v s w d n = rw n (begins_so row (codes "fork") (verb_word v) false w d)
 
-says_marked : (names : Names) (place : Place) (row : Row) (v : Verb) (s : Statement) → statement_of names place v row ≡ Ok s → word_at row 0 ≡ text_of v → Marked names.variables (codes "fork") 1 row (assigned s)
+says_marked : (names : Names) (place : Place) (row : Row) (v : Verb) (s : Statement) → statement_of names place v row ≡ Ok s → word_at row 0 ≡ verb_word v → Marked names.variables (codes "fork") 1 row (assigned s)
 unfolding statement_of is_same
 says_marked names place row verb.Fork s e w = fork_marked names place row s e w
 says_marked names place row verb.Getpid s e w = none_marked names row verb.Getpid s w refl ((ended_here row 1 statement.Getpid IsNoFork refl).fact s e)
@@ -137,6 +138,6 @@ start_step names place row i now (silent k e n) = rw e (skipped_start row k)
 start_step names place row i now (opens m k b w nu l lo hi e n) = rw e (begins_so row (codes "start") (codes "cluster") false w start_word.3)
 start_step names place row i now (begins k b w a o nm d l e n) = rw e (begins_so row (codes "start") (codes "script") false w start_word.0)
 start_step names place row i now (ends k b w o l e n) = rw e (begins_so row (codes "start") (codes "end") false w start_word.1)
-start_step names place row i now (says v s k b w o c st e n) = rw e (begins_so row (codes "start") (text_of v) false w (verb_start v))
+start_step names place row i now (says v s k b w o c st e n) = rw e (begins_so row (codes "start") (verb_word v) false w (verb_start v))
 start_step names place row i now (starts s k b w c o st e n) =
     subst (λ x. Marked names.variables (codes "start") 3 row (started x)) (sym e) (begins_so row (codes "start") (codes "start") true w start_word.2, (variable_there names place (word_at row 3) s.var st.var).1)

@@ -1,15 +1,16 @@
 -- words that are told apart
 use Rattle.std.proofs.Common.{◌≡◌, ◌==◌, ℕ, Bool, true, false, List, [], ◌∷◌, refl, ap, ◌∙◌, subst, Option, Some, None}
 use Rattle.std.specs.Prelude.{codes}
+use Rattle.unix_names.specs.declared.Act.{Act}
 use Rattle.unix_names.proofs.SignalLaws.{find-passes}
 use Rattle.std.proofs.lemmas.Bool.{eqb-true}
 use Rattle.std.proofs.lemmas.Slice.Eq.{bytes_eq-Decides}
-use Rattle.script_reader.specs.declared.statements.Verb.{Verb}
-use Rattle.script_reader.specs.declared.statements.Verb.TheVariants as verb
+use Rattle.script_words.specs.declared.table.Verb.{Verb}
+use Rattle.script_words.specs.declared.table.Verb.TheVariants as verb
 use Rattle.script_reader.specs.declared.lines.Head.{Head}
 use Rattle.script_reader.specs.declared.lines.Head.TheVariants as head
 use Rattle.script_words.specs.Words.{Word, Row, is_same, word_at, is_skipped}
-use Rattle.script_reader.specs.Statements.{text_of, all_verbs, verb_named}
+use Rattle.script_words.specs.Table.{verb_word, all_verbs, verb_named, act_word, all_acts, act_named}
 use Rattle.script_reader.specs.Lines.{head_of}
 use Rattle.script_reader.specs.Files.{begins_with}
 
@@ -21,16 +22,20 @@ pub words_same : (a b : Word) → a ≡ b → is_same a b ≡ true
 unfolding is_same
 words_same a b e = (bytes_eq-Decides a b).1 e
 
-pub verb_word : (word : Word) (v : Verb) → verb_named word ≡ Some v → word ≡ text_of v
+pub verb_spelled : (word : Word) (v : Verb) → verb_named word ≡ Some v → word ≡ verb_word v
 unfolding verb_named
-verb_word word v e = same_words word (text_of v) (find-passes (λ v. is_same word (text_of v)) all_verbs v e)
+verb_spelled word v e = same_words word (verb_word v) (find-passes (λ v. is_same word (verb_word v)) all_verbs v e)
+
+pub act_spelled : (word : Word) (a : Act) → act_named word ≡ Some a → word ≡ act_word a
+unfolding act_named
+act_spelled word a e = same_words word (act_word a) (find-passes (λ a. is_same word (act_word a)) all_acts a e)
 
 -- the word that a line begins with, by what it begins with
 abbrev pub BeginsSo : Word → Head → Type 0
 BeginsSo word head.Script = word ≡ codes "script"
 BeginsSo word head.End = word ≡ codes "end"
 BeginsSo word head.Start = word ≡ codes "start"
-BeginsSo word (head.Says v) = word ≡ text_of v
+BeginsSo word (head.Says v) = word ≡ verb_word v
 BeginsSo word head.Unknown = (word ≡ codes "script" → ⊥) × (word ≡ codes "start" → ⊥) × (word ≡ codes "fork" → ⊥)
 
 differs : (a b : Word) → is_same a b ≡ false → a ≡ b → ⊥
@@ -48,7 +53,7 @@ head_word word = go (is_same word (codes "script")) (is_same word (codes "end"))
     go true b c o ea eb ec eo = rw ea (same_words word (codes "script") ea)
     go false true c o ea eb ec eo = rw (ea, eb) (same_words word (codes "end") eb)
     go false false true o ea eb ec eo = rw (ea, eb, ec) (same_words word (codes "start") ec)
-    go false false false (Some v) ea eb ec eo = rw (ea, eb, ec, eo) (verb_word word v eo)
+    go false false false (Some v) ea eb ec eo = rw (ea, eb, ec, eo) (verb_spelled word v eo)
     go false false false None ea eb ec eo = rw (ea, eb, ec, eo) (differs word (codes "script") ea, differs word (codes "start") ec, λ f. fork_named (subst (λ w. verb_named w ≡ None) f eo))
 
 -- ---- lines by their first word
@@ -73,12 +78,12 @@ pub begins_so : (row : Row) (first word : Word) (b : Bool) → word_at row 0 ≡
 unfolding begins_with
 begins_so row first word b w e = ap (λ z. is_same z first) w ∙ e
 
-pub verb_script : (v : Verb) → is_same (text_of v) (codes "script") ≡ false
+pub verb_script : (v : Verb) → is_same (verb_word v) (codes "script") ≡ false
 unfolding is_same
 verb_script verb.Getpid = refl
 verb_script _ = refl
 
-pub verb_start : (v : Verb) → is_same (text_of v) (codes "start") ≡ false
+pub verb_start : (v : Verb) → is_same (verb_word v) (codes "start") ≡ false
 unfolding is_same
 verb_start verb.Getpid = refl
 verb_start _ = refl
@@ -91,7 +96,7 @@ pub start_word : (is_same (codes "script") (codes "start") ≡ false) × (is_sam
 unfolding is_same
 start_word = (refl, refl, refl, refl)
 
-pub verb_fork : (v : Verb) → (v ≡ verb.Fork → ⊥) → is_same (text_of v) (codes "fork") ≡ false
+pub verb_fork : (v : Verb) → (v ≡ verb.Fork → ⊥) → is_same (verb_word v) (codes "fork") ≡ false
 unfolding is_same
 verb_fork verb.Fork n = absurd (n refl)
 verb_fork _ n = refl

@@ -7,7 +7,7 @@ use Rattle.script_words.specs.declared.faults.Kind.{Kind}
 use Rattle.script_words.specs.declared.faults.Kind.TheVariants.{NotUtf8, NoClusterLine, UnknownWord, NoSuchNode, TooManyNodes, TooManyScripts, TooManyStatements, TooManyStarts, DoubleName}
 use Rattle.script_reader.specs.declared.names.Names.{Names}
 use Rattle.script_reader.specs.declared.places.Place.{Place}
-use Rattle.script_reader.specs.declared.statements.Verb.{Verb}
+use Rattle.script_words.specs.declared.table.Verb.{Verb}
 use Rattle.script_reader.specs.declared.lines.Head.{Head}
 use Rattle.script_reader.specs.declared.lines.Head.TheVariants as head
 use Rattle.script_reader.specs.declared.lines.Item.{Item}

@@ -1,8 +1,7 @@
 -- statements of a script, read from their words
-use Rattle.std.specs.Prelude.{ℕ, ◌-◌, ◌==◌, Bool, true, false, nat_lt, nat_le, if◌then◌else◌, List, [], ◌∷◌, length, drop, codes, Option, Some, None, Result, Ok, Err, find}
+use Rattle.std.specs.Prelude.{ℕ, ◌-◌, ◌==◌, Bool, true, false, nat_lt, nat_le, if◌then◌else◌, List, [], ◌∷◌, length, drop, codes, Option, Some, None, Result, Ok, Err}
 use Rattle.unix_names.specs.declared.names.NodeId.{NodeId}
 use Rattle.unix_names.specs.declared.states.Act.{Act}
-use Rattle.unix_names.specs.declared.states.Act.TheVariants.{Default, Ignore, Catch}
 use Rattle.unix_names.specs.Sets.{added}
 use Rattle.unix_calls.specs.declared.world.Arg.{Arg}
 use Rattle.unix_calls.specs.declared.world.Arg.TheVariants.{Zero, One, Nobody, Own, Maker, Var}
@@ -10,11 +9,12 @@ use Rattle.unix_calls.specs.declared.world.Statement.{Statement}
 use Rattle.unix_calls.specs.declared.world.Statement.TheVariants as statement
 use Rattle.script_words.specs.declared.faults.Kind.{Kind}
 use Rattle.script_words.specs.declared.faults.Kind.TheVariants.{UnknownWord, BadNumber, UnknownScript, LaterScript}
-use Rattle.script_reader.specs.declared.statements.Verb.{Verb}
-use Rattle.script_reader.specs.declared.statements.Verb.TheVariants as verb
+use Rattle.script_words.specs.declared.table.Verb.{Verb}
+use Rattle.script_words.specs.declared.table.Verb.TheVariants as verb
 use Rattle.script_reader.specs.declared.names.Names.{Names}
 use Rattle.script_reader.specs.declared.places.Place.{Place}
 use Rattle.script_words.specs.Words.{Word, Row, ◌>>=◌, found, is_same, word_at, name, number, signal_number, signal, is_minus_digits, ended, node}
+use Rattle.script_words.specs.Table.{act_named, changes_in}
 use Rattle.script_reader.specs.Names.{Table, number_in}
 
 -- a word at the place of a variable that is given a value
@@ -69,18 +69,11 @@ selector variables word = if is_same word (codes "any") then Ok (true, false, No
 
 -- which changes of a child `wait` asks for too, from its third word on: stopped ones, continued ones
 unfoldable pub changes : Row → Result (Bool × Bool) Kind
-changes row =
-    if nat_le (length row) 2 then Ok (false, false)
-    else (if is_same (word_at row 2) (codes "stopped")
-    then (if nat_le (length row) 3 then Ok (true, false)
-    else (if is_same (word_at row 3) (codes "continued") then ended row 4 (true, true) else Err UnknownWord))
-    else (if is_same (word_at row 2) (codes "continued") then ended row 3 (false, true) else Err UnknownWord))
+changes row = found (changes_in (drop 2 row)) UnknownWord
 
+-- a word at the place of an action
 unfoldable pub act : Word → Result Act Kind
-act word =
-    if is_same word (codes "default") then Ok Default
-    else (if is_same word (codes "ignore") then Ok Ignore
-    else (if is_same word (codes "catch") then Ok Catch else Err UnknownWord))
+act word = found (act_named word) UnknownWord
 
 -- the signals of some words, and those of a set
 unfoldable pub signals : ℕ → Row → Result ℕ Kind
@@ -160,29 +153,3 @@ statement_of names place verb.Setpgid row = setpgid_statement names.variables ro
 statement_of names place verb.Action row = action_statement row
 statement_of names place verb.Mask row = mask_statement row
 statement_of names place verb.Migrate row = migrate_statement place.nodes row
-
--- the word that a statement begins with
-abbrev pub text_of : Verb → Word
-text_of verb.Getpid = codes "getpid"
-text_of verb.Getppid = codes "getppid"
-text_of verb.Getpgid = codes "getpgid"
-text_of verb.Getsid = codes "getsid"
-text_of verb.Fork = codes "fork"
-text_of verb.Exec = codes "exec"
-text_of verb.Exit = codes "exit"
-text_of verb.Wait = codes "wait"
-text_of verb.Poll = codes "poll"
-text_of verb.Kill = codes "kill"
-text_of verb.Setpgid = codes "setpgid"
-text_of verb.Setsid = codes "setsid"
-text_of verb.Action = codes "action"
-text_of verb.Mask = codes "mask"
-text_of verb.Pending = codes "pending"
-text_of verb.Migrate = codes "migrate"
-
-abbrev pub all_verbs : List Verb
-all_verbs = verb.Getpid ∷ verb.Getppid ∷ verb.Getpgid ∷ verb.Getsid ∷ verb.Fork ∷ verb.Exec ∷ verb.Exit ∷ verb.Wait ∷ verb.Poll ∷ verb.Kill ∷ verb.Setpgid ∷ verb.Setsid ∷ verb.Action ∷ verb.Mask ∷ verb.Pending ∷ verb.Migrate ∷ []
-
--- the statement's word that a word is
-unfoldable pub verb_named : Word → Option Verb
-verb_named word = find (λ v. is_same word (text_of v)) all_verbs

@@ -5,8 +5,10 @@ ghost use Rattle.script_reader.specs.Lines as spec;
 
 use crate::names::{Names, Numbers};
 use crate::places::Place;
-use crate::statements::{Verb, script, statement_of, verb_named};
-use script_words::{Kind, ended, is_skipped, is_utf8, is_word, name, node, number, word_at};
+use crate::statements::{script, statement_of};
+use script_words::{
+    Kind, Verb, ended, is_skipped, is_utf8, is_word, name, node, number, verb_named, word_at,
+};
 use unix_calls::{MOST_NODES, MOST_SCRIPTS, MOST_STARTS, MOST_STATEMENTS, Statement};
 
 /// What a line begins with.

@@ -5,84 +5,11 @@ ghost use Rattle.script_reader.specs.Statements as spec;
 use crate::names::{Names, Numbers};
 use crate::places::Place;
 use script_words::{
-    Kind, ended, is_minus_digits, is_word, name, node, number, signal, signal_number, word_at,
+    Kind, Verb, act_named, changes_in, ended, is_minus_digits, is_word, name, node, number, signal,
+    signal_number, word_at,
 };
 use unix_calls::{Arg, Statement};
 use unix_names::{Act, NodeId, SigSet};
-
-/// What a statement begins with.
-#[derive(Clone, Copy, Debug, PartialEq, Eq)]
-pub enum Verb {
-    Getpid,
-    Getppid,
-    Getpgid,
-    Getsid,
-    Fork,
-    Exec,
-    Exit,
-    Wait,
-    Poll,
-    Kill,
-    Setpgid,
-    Setsid,
-    Action,
-    Mask,
-    Pending,
-    Migrate,
-}
-
-const ALL_VERBS: [Verb; 16] = [
-    Verb::Getpid,
-    Verb::Getppid,
-    Verb::Getpgid,
-    Verb::Getsid,
-    Verb::Fork,
-    Verb::Exec,
-    Verb::Exit,
-    Verb::Wait,
-    Verb::Poll,
-    Verb::Kill,
-    Verb::Setpgid,
-    Verb::Setsid,
-    Verb::Action,
-    Verb::Mask,
-    Verb::Pending,
-    Verb::Migrate,
-];
-
-fn text_of(verb: Verb) -> &'static str
-    ensures { result.now ≡ spec.text_of verb }
-{
-    match verb {
-        Verb::Getpid => "getpid",
-        Verb::Getppid => "getppid",
-        Verb::Getpgid => "getpgid",
-        Verb::Getsid => "getsid",
-        Verb::Fork => "fork",
-        Verb::Exec => "exec",
-        Verb::Exit => "exit",
-        Verb::Wait => "wait",
-        Verb::Poll => "poll",
-        Verb::Kill => "kill",
-        Verb::Setpgid => "setpgid",
-        Verb::Setsid => "setsid",
-        Verb::Action => "action",
-        Verb::Mask => "mask",
-        Verb::Pending => "pending",
-        Verb::Migrate => "migrate",
-    }
-}
-
-/// The statement's word that a word is.
-#[tactic(auto, unfolding(crate::specs::Statements::verb_named))]
-pub fn verb_named(word: &[u8]) -> Option<Verb>
-    ensures { result ≡ spec.verb_named word.now }
-{
-    ALL_VERBS
-        .iter()
-        .copied()
-        .find(|v| is_word(word, text_of(*v)))
-}
 
 /// A variable that is given a value.
 #[tactic(auto, unfolding(crate::specs::Statements::own_variable))]
@@ -201,25 +128,14 @@ fn selector<'a>(variables: &Numbers<'a>, word: &'a [u8]) -> Result<(bool, bool, 
     }
 }
 
-// Which changes of a child `wait` asks for too: stopped ones, continued ones.
+// Which changes of a child `wait` asks for too, from its third word on: stopped ones, continued ones.
 #[tactic(auto, unfolding(crate::specs::Statements::changes))]
 fn changes(words: &[&[u8]]) -> Result<(bool, bool), Kind>
     ensures { result ≡ spec.changes (map (λ w. w.now) words.now) }
 {
-    if words.len() <= 2 {
-        Ok((false, false))
-    } else if is_word(word_at(words, 2), "stopped") {
-        if words.len() <= 3 {
-            Ok((true, false))
-        } else if is_word(word_at(words, 3), "continued") {
-            ended(words, 4, (true, true))
-        } else {
-            Err(Kind::UnknownWord)
-        }
-    } else if is_word(word_at(words, 2), "continued") {
-        ended(words, 3, (false, true))
-    } else {
-        Err(Kind::UnknownWord)
+    match words {
+        [_, _, asked @ ..] => changes_in(asked).ok_or(Kind::UnknownWord),
+        _ => Ok((false, false)),
     }
 }
 
@@ -227,15 +143,7 @@ fn changes(words: &[&[u8]]) -> Result<(bool, bool), Kind>
 fn act(word: &[u8]) -> Result<Act, Kind>
     ensures { result ≡ spec.act word.now }
 {
-    if is_word(word, "default") {
-        Ok(Act::Default)
-    } else if is_word(word, "ignore") {
-        Ok(Act::Ignore)
-    } else if is_word(word, "catch") {
-        Ok(Act::Catch)
-    } else {
-        Err(Kind::UnknownWord)
-    }
+    act_named(word).ok_or(Kind::UnknownWord)
 }
 
 fn signals(words: &[&[u8]]) -> Result<SigSet, Kind>

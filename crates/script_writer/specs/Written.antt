@@ -3,11 +3,6 @@
 use Rattle.std.specs.Prelude.{ℕ, ◌+◌, ◌==◌, Bool, true, false, if◌then◌else◌, Option, None, Some, List, [], ◌∷◌, ◌++◌, map, filter, codes, slice_get}
 use Rattle.std.specs.List.{flat_map}
 use Rattle.std.specs.Fmt.{decimal}
-use Rattle.unix_names.specs.Signals.{word_of, signal_of, all_signals}
-use Rattle.unix_names.specs.Sets.{has}
-use Rattle.unix_names.specs.declared.Signal.{Signal}
-use Rattle.unix_names.specs.declared.Act.{Act}
-use Rattle.unix_names.specs.declared.Act.TheVariants as acts
 use Rattle.unix_names.specs.declared.NodeId.{NodeId}
 use Rattle.unix_calls.specs.declared.Arg.{Arg}
 use Rattle.unix_calls.specs.declared.Arg.TheVariants.{Zero, One, Nobody, Own, Maker, Var}
@@ -16,13 +11,10 @@ use Rattle.unix_calls.specs.declared.Start.{Start}
 use Rattle.unix_calls.specs.declared.Statement.{Statement}
 use Rattle.unix_calls.specs.declared.Statement.TheVariants as statement
 use Rattle.unix_calls.specs.declared.World.{World}
-
-abbrev pub Word : Type 0
-Word = List ℕ
-
--- the words of a line
-abbrev pub Row : Type 0
-Row = List Word
+use Rattle.script_words.specs.declared.Verb.TheVariants as verb
+use Rattle.script_words.specs.Words.{Word, Row}
+use Rattle.script_words.specs.Table.{verb_word, act_word, change_words}
+use Rattle.script_words.specs.Writing.{spaced, signal_word, member_words}
 
 abbrev pub script_name : ℕ → Word
 script_name n = codes "s" ++ decimal n
@@ -48,53 +40,32 @@ abbrev pub selector_word : Bool → Bool → Arg → Word
 selector_word true minus arg = codes "any"
 selector_word false minus arg = target_word minus arg
 
--- the changes of a child that are asked for beside its end
-abbrev pub change_words : Bool → Bool → Row
-change_words false false = []
-change_words true false = codes "stopped" ∷ []
-change_words false true = codes "continued" ∷ []
-change_words true true = codes "stopped" ∷ codes "continued" ∷ []
-
--- a signal's word, or the number where it is no signal's
-abbrev pub signal_or_number : ℕ → Option Signal → Word
-signal_or_number n None = decimal n
-signal_or_number n (Some s) = word_of s
-
-abbrev pub act_word : Act → Word
-act_word acts.Default = codes "default"
-act_word acts.Ignore = codes "ignore"
-act_word acts.Catch = codes "catch"
-
 abbrev pub site_words : Option NodeId → Row
 site_words None = []
 site_words (Some node) = codes "at" ∷ decimal node.0 ∷ []
 
 -- a statement that waits begins with `wait`, one that doesn't with `poll`
 abbrev pub wait_word : Bool → Word
-wait_word true = codes "wait"
-wait_word false = codes "poll"
-
--- the words of a set of signals, by number
-abbrev pub set_words : ℕ → Row
-set_words set = map word_of (filter (has set) all_signals)
+wait_word true = verb_word verb.Wait
+wait_word false = verb_word verb.Poll
 
 -- the words of a statement's line
 abbrev pub statement_words : Statement → Row
-statement_words statement.Getpid = codes "getpid" ∷ []
-statement_words statement.Getppid = codes "getppid" ∷ []
-statement_words (statement.Getpgid arg) = codes "getpgid" ∷ arg_word arg ∷ []
-statement_words (statement.Getsid arg) = codes "getsid" ∷ arg_word arg ∷ []
-statement_words (statement.Fork var script at) = codes "fork" ∷ variable_name var ∷ script_name script ∷ site_words at
-statement_words (statement.Exec script) = codes "exec" ∷ script_name script ∷ []
-statement_words (statement.Exit n) = codes "exit" ∷ decimal n ∷ []
+statement_words statement.Getpid = verb_word verb.Getpid ∷ []
+statement_words statement.Getppid = verb_word verb.Getppid ∷ []
+statement_words (statement.Getpgid arg) = verb_word verb.Getpgid ∷ arg_word arg ∷ []
+statement_words (statement.Getsid arg) = verb_word verb.Getsid ∷ arg_word arg ∷ []
+statement_words (statement.Fork var script at) = verb_word verb.Fork ∷ variable_name var ∷ script_name script ∷ site_words at
+statement_words (statement.Exec script) = verb_word verb.Exec ∷ script_name script ∷ []
+statement_words (statement.Exit n) = verb_word verb.Exit ∷ decimal n ∷ []
 statement_words (statement.Wait sleeps any minus arg stopped continued) = wait_word sleeps ∷ selector_word any minus arg ∷ change_words stopped continued
-statement_words (statement.Kill minus arg sig) = codes "kill" ∷ target_word minus arg ∷ signal_or_number sig (signal_of sig) ∷ []
-statement_words (statement.Setpgid pid minus pgid) = codes "setpgid" ∷ arg_word pid ∷ target_word minus pgid ∷ []
-statement_words statement.Setsid = codes "setsid" ∷ []
-statement_words (statement.Action sig act) = codes "action" ∷ signal_or_number sig (signal_of sig) ∷ act_word act ∷ []
-statement_words (statement.Mask set) = codes "mask" ∷ set_words set
-statement_words statement.Pending = codes "pending" ∷ []
-statement_words (statement.Migrate node) = codes "migrate" ∷ decimal node.0 ∷ []
+statement_words (statement.Kill minus arg sig) = verb_word verb.Kill ∷ target_word minus arg ∷ signal_word sig ∷ []
+statement_words (statement.Setpgid pid minus pgid) = verb_word verb.Setpgid ∷ arg_word pid ∷ target_word minus pgid ∷ []
+statement_words statement.Setsid = verb_word verb.Setsid ∷ []
+statement_words (statement.Action sig act) = verb_word verb.Action ∷ signal_word sig ∷ act_word act ∷ []
+statement_words (statement.Mask set) = verb_word verb.Mask ∷ member_words set
+statement_words statement.Pending = verb_word verb.Pending ∷ []
+statement_words (statement.Migrate node) = verb_word verb.Migrate ∷ decimal node.0 ∷ []
 
 -- a script with its number: its first line, its statements and its end
 abbrev pub script_rows : ℕ → Script → List Row
@@ -125,10 +96,6 @@ start_row starts s = codes "start" ∷ decimal s.node.0 ∷ script_name s.script
 -- the lines of a world, by their words: the cluster, the scripts, the starts
 abbrev pub file_rows : World → List Row
 file_rows world = (codes "cluster" ∷ decimal world.nodes ∷ []) ∷ scripts_rows 0 world.scripts ++ map (start_row world.starts) world.starts
-
--- each word behind a space
-abbrev pub spaced : Row → List ℕ
-spaced words = flat_map (λ word. 32 ∷ word) words
 
 -- words, one space apart
 abbrev pub spelled : Row → List ℕ

@@ -2,7 +2,8 @@
 ghost use Rattle.std.specs.Prelude.{◌≡◌, ◌++◌, ◌∷◌, [], IfOk, OnOk, map, codes};
 ghost use Rattle.std.specs.List.{flat_map};
 ghost use Rattle.std.specs.String.{string_bytes};
-ghost use Rattle.script_writer.specs.Written.{spaced, spelled, line_text, statement_words, script_rows, scripts_rows, uid_words, joined_words, with_words, start_row, file_text};
+ghost use Rattle.script_words.specs.Writing.{spaced};
+ghost use Rattle.script_writer.specs.Written.{spelled, line_text, statement_words, script_rows, scripts_rows, uid_words, joined_words, with_words, start_row, file_text};
 
 use crate::statements::put_statement;
 use std::alloc::{AllocError, Global};

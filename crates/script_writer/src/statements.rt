@@ -1,29 +1,37 @@
 // Statements as lines of a file.
-ghost use Rattle.std.specs.Prelude.{◌≡◌, ◌++◌, ◌∷◌, OnOk, map, filter};
+ghost use Rattle.std.specs.Prelude.{◌≡◌, ◌++◌, ◌∷◌, OnOk};
 ghost use Rattle.std.specs.String.{string_bytes};
-ghost use Rattle.unix_names.specs.Signals.{word_of as word, signal_of as named};
-ghost use Rattle.unix_names.specs.Sets.{has};
-ghost use Rattle.script_writer.specs.Written.{spaced, spelled, arg_word, target_word, selector_word, change_words, signal_or_number, act_word, site_words, set_words, statement_words};
+ghost use Rattle.script_words.specs.Table.{verb_word as word_of};
+ghost use Rattle.script_words.specs.Writing.{spaced};
+ghost use Rattle.script_writer.specs.Written.{spelled, arg_word, target_word, selector_word, site_words, statement_words};
 
+use script_words::{Verb, act_word, put_changes, put_members, put_signal, put_word, verb_word};
 use std::alloc::AllocError;
 use unix_calls::{Arg, Statement};
-use unix_names::{ALL_SIGNALS, Act, NodeId, SigSet, Signal, signal_of, word_of};
+use unix_names::NodeId;
 
 /// Puts the words of a statement at the end of a text.
 pub fn put_statement(text: &mut String, statement: &Statement) -> Result<(), AllocError>
     ensures { OnOk result (string_bytes text.new ≡ string_bytes text.old ++ spelled (statement_words statement.now)) }
 {
     match *statement {
-        Statement::Getpid => text.push_str("getpid"),
-        Statement::Getppid => text.push_str("getppid"),
-        Statement::Getpgid(arg) => put_call(text, "getpgid", arg),
-        Statement::Getsid(arg) => put_call(text, "getsid", arg),
+        Statement::Getpid => text.push_str(verb_word(Verb::Getpid)),
+        Statement::Getppid => text.push_str(verb_word(Verb::Getppid)),
+        Statement::Getpgid(arg) => put_call(text, Verb::Getpgid, arg),
+        Statement::Getsid(arg) => put_call(text, Verb::Getsid, arg),
         Statement::Fork { var, script, at } => {
-            write!(text, "fork v{var} s{script}")?;
+            text.push_str(verb_word(Verb::Fork))?;
+            write!(text, " v{var} s{script}")?;
             put_site(text, at)
         }
-        Statement::Exec(script) => write!(text, "exec s{script}"),
-        Statement::Exit(number) => write!(text, "exit {number}"),
+        Statement::Exec(script) => {
+            text.push_str(verb_word(Verb::Exec))?;
+            write!(text, " s{script}")
+        }
+        Statement::Exit(number) => {
+            text.push_str(verb_word(Verb::Exit))?;
+            write!(text, " {number}")
+        }
         Statement::Wait {
             sleeps,
             any,
@@ -32,42 +40,43 @@ pub fn put_statement(text: &mut String, statement: &Statement) -> Result<(), All
             stopped,
             continued,
         } => {
-            text.push_str(if sleeps { "wait" } else { "poll" })?;
+            text.push_str(verb_word(if sleeps { Verb::Wait } else { Verb::Poll }))?;
             put_selector(text, any, minus, arg)?;
             put_changes(text, stopped, continued)
         }
         Statement::Kill { minus, arg, sig } => {
-            text.push_str("kill")?;
+            text.push_str(verb_word(Verb::Kill))?;
             put_target(text, minus, arg)?;
             put_signal(text, sig)
         }
         Statement::Setpgid { pid, minus, pgid } => {
-            put_call(text, "setpgid", pid)?;
+            put_call(text, Verb::Setpgid, pid)?;
             put_target(text, minus, pgid)
         }
-        Statement::Setsid => text.push_str("setsid"),
+        Statement::Setsid => text.push_str(verb_word(Verb::Setsid)),
         Statement::Action { sig, act } => {
-            text.push_str("action")?;
+            text.push_str(verb_word(Verb::Action))?;
             put_signal(text, sig)?;
-            put_word(text, act_text(act))
+            put_word(text, act_word(act))
         }
         Statement::Mask(set) => {
-            text.push_str("mask")?;
-            put_members(text, set, &ALL_SIGNALS)
+            text.push_str(verb_word(Verb::Mask))?;
+            put_members(text, set)
         }
-        Statement::Pending => text.push_str("pending"),
+        Statement::Pending => text.push_str(verb_word(Verb::Pending)),
         Statement::Migrate(node) => {
             let number = node.0;
-            write!(text, "migrate {number}")
+            text.push_str(verb_word(Verb::Migrate))?;
+            write!(text, " {number}")
         }
     }
 }
 
 // A call and the process that it names.
-fn put_call(text: &mut String, call: &str, arg: Arg) -> Result<(), AllocError>
-    ensures { OnOk result (string_bytes text.new ≡ string_bytes text.old ++ call.now ++ 32 ∷ arg_word arg) }
+fn put_call(text: &mut String, call: Verb, arg: Arg) -> Result<(), AllocError>
+    ensures { OnOk result (string_bytes text.new ≡ string_bytes text.old ++ word_of call ++ 32 ∷ arg_word arg) }
 {
-    text.push_str(call)?;
+    text.push_str(verb_word(call))?;
     text.push_str(" ")?;
     put_arg(text, arg)
 }
@@ -106,18 +115,6 @@ fn put_selector(text: &mut String, any: bool, minus: bool, arg: Arg) -> Result<(
     put_target(text, minus, arg)
 }
 
-// The changes of a child that are asked for beside its end.
-fn put_changes(text: &mut String, stopped: bool, continued: bool) -> Result<(), AllocError>
-    ensures { OnOk result (string_bytes text.new ≡ string_bytes text.old ++ spaced (change_words stopped continued)) }
-{
-    match (stopped, continued) {
-        (false, false) => Ok(()),
-        (true, false) => text.push_str(" stopped"),
-        (false, true) => text.push_str(" continued"),
-        (true, true) => text.push_str(" stopped continued"),
-    }
-}
-
 fn put_site(text: &mut String, at: Option<NodeId>) -> Result<(), AllocError>
     ensures { OnOk result (string_bytes text.new ≡ string_bytes text.old ++ spaced (site_words at)) }
 {
@@ -127,44 +124,5 @@ fn put_site(text: &mut String, at: Option<NodeId>) -> Result<(), AllocError>
             write!(text, " at {number}")
         }
         None => Ok(()),
-    }
-}
-
-// A signal's word, or the number where it is no signal's.
-fn put_signal(text: &mut String, number: u32) -> Result<(), AllocError>
-    ensures { OnOk result (string_bytes text.new ≡ string_bytes text.old ++ 32 ∷ signal_or_number number (named number)) }
-{
-    match signal_of(number) {
-        Some(signal) => put_word(text, word_of(signal)),
-        None => write!(text, " {number}"),
-    }
-}
-
-// The words of those signals that are in a set.
-fn put_members(text: &mut String, set: SigSet, signals: &[Signal]) -> Result<(), AllocError>
-    ensures { OnOk result (string_bytes text.new ≡ string_bytes text.old ++ spaced (map word (filter (has set) signals.now))) }
-{
-    for signal in signals {
-        if set.has(*signal) {
-            put_word(text, word_of(*signal))?;
-        }
-    }
-    Ok(())
-}
-
-fn put_word(text: &mut String, word: &str) -> Result<(), AllocError>
-    ensures { OnOk result (string_bytes text.new ≡ string_bytes text.old ++ 32 ∷ word.now) }
-{
-    text.push_str(" ")?;
-    text.push_str(word)
-}
-
-fn act_text(act: Act) -> &'static str
-    ensures { result.now ≡ act_word act }
-{
-    match act {
-        Act::Default => "default",
-        Act::Ignore => "ignore",
-        Act::Catch => "catch",
     }
 }

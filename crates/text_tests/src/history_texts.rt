@@ -2,7 +2,8 @@
 ghost use Rattle.std.specs.Prelude.{◌≡◌, length};
 
 use file_parts::Span;
-use histories::{Stamped, TextRefusal, put_history_two, read_history, read_history_two};
+use histories::{BadLine, Stamped, put_history_two, read_history, read_history_two};
+use script_words::ReadRefusal;
 use std::alloc::Global;
 use std::process::Abort;
 use std::test::Fail;
@@ -41,7 +42,7 @@ fn are_bad(rt: &impl Abort, alloc: Global, cases: &[(&[u8], u32)]) -> Result<(),
     for (text, line) in cases {
         assert!(rt; text.len() < 100);
         let told = read_history(alloc, text, whole(text)).err();
-        assert_eq!(rt; told, Some(TextRefusal::BadLine(*line)));
+        assert_eq!(rt; told, Some(ReadRefusal::Bad(BadLine { line: *line })));
     }
     Ok(())
 }
@@ -281,8 +282,8 @@ fn tells_format_two(rt: HostRuntime) -> Result<(), Fail> {
                 assert!(rt; read.is_none());
                 assert_eq!(rt; line, None);
             }
-            Err(TextRefusal::BadLine(number)) => assert_eq!(rt; line, Some(number)),
-            Err(TextRefusal::NoMemory) => return Err(Fail::from("no memory")),
+            Err(ReadRefusal::Bad(bad)) => assert_eq!(rt; line, Some(bad.line)),
+            Err(ReadRefusal::NoMemory) => return Err(Fail::from("no memory")),
         }
     }
     Ok(())

@@ -3,6 +3,7 @@ use Rattle.std.specs.Prelude.{slice_range}
 use Rattle.std.proofs.lemmas.List.{drop_all}
 use Rattle.std.proofs.lemmas.Grind.{common_steps}
 use Rattle.byte_ends.specs.Text.{lines}
+use Rattle.histories.specs.declared.reader.BadLine.{BadLine}
 use Rattle.histories.specs.Reading.{is_nothing, is_schedule, IsEndBad}
 use Rattle.histories.proofs.HistoryLaws.{quiet-end, quiet-nothing, quiet-schedule, quiet-bad}
 use Rattle.histories.proofs.reader.ends.Goals as goal
@@ -56,7 +57,8 @@ returns-then-not-is_skipped-clause-bad c = λ bad e.
     let test = c.if-not-is_skipped.true in
     let nothing : is_nothing (slice_range text c.in-Some.from c.in-Some.to) ≡ false = cc in
     let told : is_schedule (slice_range text c.in-Some.from c.in-Some.to) ≡ false = cc in
-    let same : c.loop-from.number ≡ bad = cc in
+    let named : record { line = c.loop-from.number } ≡ bad = cc in
+    let same : c.loop-from.number ≡ bad.line = ap (λ (b : BadLine). b.line) named in
     let P : ℕ → Type 0 = λ n. IsEndBad (lines (drop c.args.from text)) c.args.first n in
     subst P same (quiet-bad (lines (drop c.args.from text)) (lines (drop c.loop-from.at text)) c.args.first c.loop-from.number i.quiet (slice_range text c.in-Some.from c.in-Some.to) (lines (drop c.in-Some.next text)) first nothing told)
 

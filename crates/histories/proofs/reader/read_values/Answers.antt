@@ -4,7 +4,7 @@ use Rattle.std.proofs.lemmas.List.{drop_all}
 use Rattle.std.proofs.lemmas.Result.{err_from_is_err_and}
 use Rattle.std.proofs.lemmas.Grind.{common_steps}
 use Rattle.byte_ends.specs.Text.{lines}
-use Rattle.unix_calls.specs.declared.Entry.{Entry}
+use Rattle.histories.specs.declared.reader.BadLine.{BadLine}
 use Rattle.histories.specs.Reading.{Meanings, is_nothing, is_schedule, is_last, IsFirstBadOf}
 use Rattle.histories.proofs.HistoryLaws.{Reached, reached-end, reached-nothing, reached-entry, reached-schedule, reached-last, reached-bad, reached-bad_end}
 use Rattle.histories.proofs.reader.read_values.Goals as goal
@@ -50,7 +50,7 @@ returns-in_err-ends-clause-bad g c = λ bad e.
     let unscheduled : is_schedule l ≡ false = cc in
     let told : is_last l ≡ true = cc in
     let p = err_from_is_err_and c.from_residual-in_err-ends.result c.from_residual-in_err-ends.ensures.1 in
-    reached-bad_end M (lines (drop c.args.from text)) (lines (drop at text)) c.args.first c.loop-from.number c.loop-from.values.items r l (lines (drop c.in-Some.next text)) first bad nothing unscheduled told (c.in_err-ends.ensures.bad bad (cc))
+    reached-bad_end M (lines (drop c.args.from text)) (lines (drop at text)) c.args.first c.loop-from.number c.loop-from.values.items r l (lines (drop c.in-Some.next text)) first bad.line nothing unscheduled told (c.in_err-ends.ensures.bad bad (cc))
 
 pub returns-then-is_last-clause-values : goal.returns-then-is_last-clause-values
 returns-then-is_last-clause-values g c =
@@ -94,7 +94,8 @@ returns-in-Ok-None-clause-bad g c = λ bad e.
     let ending = c.is_last.ensures in
     let unscheduled : is_schedule l ≡ false = cc in
     let told : is_last l ≡ false = cc in
-    let same : c.loop-from.number ≡ bad = cc in
+    let named : record { line = c.loop-from.number } ≡ bad = cc in
+    let same : c.loop-from.number ≡ bad.line = ap (λ (b : BadLine). b.line) named in
     let P : ℕ → Type 0 = λ n. IsFirstBadOf M (lines (drop c.args.from text)) c.args.first n in
     subst P same (reached-bad M (lines (drop c.args.from text)) (lines (drop at text)) c.args.first c.loop-from.number c.loop-from.values.items r l (lines (drop c.in-Some.next text)) first nothing unscheduled told ((rw c.in-Ok-None.field-0-is at c.in-Ok-None.ensures.none) refl))
 

@@ -1,4 +1,3 @@
-use Rattle.std.proofs.Common.{List, ℕ}
 use Rattle.std.specs.Prelude.{IfOk, IsNone}
 use Rattle.script_words.specs.Words.{Row}
 use Rattle.histories.specs.declared.stamped.Stamped.{Stamped}

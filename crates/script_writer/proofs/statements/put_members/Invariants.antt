@@ -1,9 +1,0 @@
-use Rattle.std.proofs.Common.{◌≡◌, ◌++◌, take, map, filter}
-use Rattle.std.specs.String.{string_bytes}
-use Rattle.unix_names.specs.Signals.{word_of}
-use Rattle.unix_names.specs.Sets.{has}
-use Rattle.script_writer.specs.Written.{spaced}
-use Rattle.script_writer.proofs.statements.put_members.Given as goal
-
-abbrev pub invariant-loop-signal : goal.invariant-loop-signal
-invariant-loop-signal l = string_bytes l.text ≡ string_bytes l.initial.text ++ spaced (map word_of (filter (has l.set) (take l.signal-index l.signals)))
