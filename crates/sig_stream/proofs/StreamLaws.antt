@@ -9,15 +9,14 @@ use Rattle.list_laws.proofs.Filters.{length-map}
 use Rattle.unix_names.specs.declared.Pid.{Pid}
 use Rattle.unix_names.specs.declared.Signal.{Signal}
 use Rattle.signal_state.specs.Signals.{Signals}
-use Rattle.signal_state.specs.Sig.{generated_all}
-use Rattle.signal_state.proofs.Folds.{generated_all-append}
+use Rattle.signal_state.specs.Sig.{generated, generated_all}
 use Rattle.vproc_record.specs.declared.Vproc.{Vproc}
 use Rattle.group_record.specs.declared.LogEntry.{LogEntry}
 use Rattle.group_record.specs.declared.Group.{Group}
 use Rattle.group_record.specs.Log.{concerns, log_part}
 use Rattle.group_record.proofs.LogLaws.{log_part-trimmed, log_part-joined_other, log_part-left_other, log_part-appended}
 use Rattle.sig_stream.specs.Streams.{signals_for, stream, tail}
-use Rattle.sig_stream.specs.Laws.{TrimmingKeeps, AppendingGrows, AppendingGrowsTails, JoiningKeeps, LeavingKeeps}
+use Rattle.sig_stream.specs.Laws.{TrimmingKeeps, AppendingGrows, AppendingGrowsTails, JoiningKeeps, LeavingKeeps, GeneratingInParts}
 
 pub trimming_keeps : TrimmingKeeps
 trimming_keeps v g has = ap (λ l. v.backlog ++ l) (log_part-trimmed g v.pid v.uid has)
@@ -33,6 +32,10 @@ joining_keeps v g p uid ne = ap (λ l. v.backlog ++ l) (log_part-joined_other g 
 
 pub leaving_keeps : LeavingKeeps
 leaving_keeps v g p ne = ap (λ l. v.backlog ++ l) (log_part-left_other g p v.pid v.uid ne)
+
+pub generating_in_parts : GeneratingInParts
+generating_in_parts sig [] second = refl
+generating_in_parts sig (s ∷ first) second = generating_in_parts (generated sig s) first second
 
 -- what is left after n of two lists, of which k are in the first
 drop_parts : {X : Type 0} (n k : ℕ) (first second : List X) → k ≡ min n (length first) → (b : Bool) → nat_le n (length first) ≡ b → drop n (first ++ second) ≡ drop k first ++ drop (n - k) second
@@ -51,7 +54,7 @@ drop_parts n k first second e false t =
 pub tail_in_parts : (sig : Signals) (taken k : ℕ) (v : Vproc) (g : Group) → k ≡ min taken (length v.backlog) →
     generated_all (generated_all sig (drop k v.backlog)) (drop (taken - k) (log_part v.pid v.uid g)) ≡ generated_all sig (tail taken v g)
 tail_in_parts sig taken k v g e =
-    sym (generated_all-append sig (drop k v.backlog) (drop (taken - k) (log_part v.pid v.uid g)))
+    sym (generating_in_parts sig (drop k v.backlog) (drop (taken - k) (log_part v.pid v.uid g)))
     ∙ ap (generated_all sig) (sym (drop_parts taken k v.backlog (log_part v.pid v.uid g) e (nat_le taken (length v.backlog)) refl))
 
 -- how long a stream is

@@ -2,6 +2,8 @@
 use Rattle.std.specs.Prelude.{ℕ, true, ◌≡◌, ◌≢◌, ◌≤◌, List, ◌++◌, length}
 use Rattle.unix_names.specs.declared.Pid.{Pid}
 use Rattle.unix_names.specs.declared.Signal.{Signal}
+use Rattle.signal_state.specs.Signals.{Signals}
+use Rattle.signal_state.specs.Sig.{generated_all}
 use Rattle.vproc_record.specs.declared.Vproc.{Vproc}
 use Rattle.group_record.specs.declared.LogEntry.{LogEntry}
 use Rattle.group_record.specs.declared.Group.{Group}
@@ -29,3 +31,7 @@ JoiningKeeps = (v : Vproc) (g : Group) (p : Pid) (uid : ℕ) → v.pid.0 ≢ p.0
 -- and so does one that leaves
 abbrev pub LeavingKeeps : Type 0
 LeavingKeeps = (v : Vproc) (g : Group) (p : Pid) → v.pid.0 ≢ p.0 → stream v (left g p) ≡ stream v g
+
+-- signals in two parts are generated one part after the other
+abbrev pub GeneratingInParts : Type 0
+GeneratingInParts = (sig : Signals) (first second : List Signal) → generated_all sig (first ++ second) ≡ generated_all (generated_all sig first) second

@@ -1,5 +1,5 @@
 // What the changes of a group's record do to the streams of its members.
-ghost use Rattle.sig_stream.specs.Laws.{TrimmingKeeps, AppendingGrows, AppendingGrowsTails, JoiningKeeps, LeavingKeeps};
+ghost use Rattle.sig_stream.specs.Laws.{TrimmingKeeps, AppendingGrows, AppendingGrowsTails, JoiningKeeps, LeavingKeeps, GeneratingInParts};
 
 /// A log that is trimmed below the least `from` keeps the stream of each member.
 pub fn trimming_keeps_streams()
@@ -16,4 +16,9 @@ pub fn appending_grows_streams()
 pub fn leaving_keeps_streams()
     ensures joining { JoiningKeeps }
     ensures leaving { LeavingKeeps }
+{}
+
+/// Signals in two parts are generated one part after the other.
+pub fn folding_is_generating()
+    ensures { GeneratingInParts }
 {}

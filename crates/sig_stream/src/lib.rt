@@ -7,7 +7,7 @@ mod moves;
 
 pub use fold::{fold_tail, stream_len, tail_len};
 pub use laws::{
-    appending_grows_streams, leaving_keeps_streams, trimming_keeps_streams,
+    appending_grows_streams, folding_is_generating, leaving_keeps_streams, trimming_keeps_streams,
 };
 pub use moves::{is_listed, regroup, settle};
 
