@@ -1,8 +1,8 @@
 // Lines that histories have and that have no meaning.
 ghost use Rattle.std.specs.Prelude.{◌≡◌, length};
 
-use histories::{BadLine, Stamped, put_history_two, read_history, read_history_two};
 use file_parts::Span;
+use histories::{BadLine, Stamped, put_history_two, read_history, read_history_two};
 use script_words::ReadRefusal;
 use std::alloc::Global;
 use std::process::Abort;
@@ -227,7 +227,8 @@ fn reads_events(rt: HostRuntime) -> Result<(), Fail> {
     Ok(())
 }
 
-const FORMAT_TWO: &[u8] = b"format 2\n1 0 2 fork = 1000002\n18446744073709551615 7 2 exit 0\nquiet\n";
+const FORMAT_TWO: &[u8] =
+    b"format 2\n1 0 2 fork = 1000002\n18446744073709551615 7 2 exit 0\nquiet\n";
 
 fn two_stamped() -> [Stamped; 2] {
     [

@@ -1,5 +1,5 @@
-use script_reader::read_file;
 use file_parts::Span;
+use script_reader::read_file;
 use script_words::{Fault, Kind, ReadRefusal};
 use std::alloc::Global;
 use std::test::Fail;

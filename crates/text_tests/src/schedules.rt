@@ -1,7 +1,7 @@
 ghost use Rattle.std.specs.Prelude.{◌≡◌, length};
 
-use run_text::{put_schedule, read_schedule};
 use file_parts::Span;
+use run_text::{put_schedule, read_schedule};
 use script_words::{Fault, Kind, ReadRefusal};
 use std::alloc::Global;
 use std::process::Abort;

@@ -1,7 +1,7 @@
 use script_words::{
-    Fault, Kind, Verb, act_named, changes_in, ended, errno_named, is_minus_digits,
-    is_skipped, name, node, number, put_changes, put_members, put_signal, put_word, signal,
-    signal_number, verb_named, verb_word,
+    Fault, Kind, Verb, act_named, changes_in, ended, errno_named, is_minus_digits, is_skipped,
+    name, node, number, put_changes, put_members, put_signal, put_word, signal, signal_number,
+    verb_named, verb_word,
 };
 use std::test::Fail;
 use unix_names::{Act, Errno, SigSet, Signal};

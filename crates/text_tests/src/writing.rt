@@ -1,7 +1,7 @@
-use script_writer::write_file;
 use file_parts::Span;
 use script_reader::read_file;
 use script_words::ReadRefusal;
+use script_writer::write_file;
 use std::alloc::Global;
 use std::test::Fail;
 use unix_calls::World;
