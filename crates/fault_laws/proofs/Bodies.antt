@@ -1,8 +1,7 @@
 -- too much work is what the reader finds to be too much
-use Rattle.std.proofs.Common.{◌≡◌, inl, inr, ℕ, ◌+◌, ◌<◌, ◌≤◌, Bool, true, false, ◌&&◌, List, [], take, refl, sym, ap, ◌∙◌, subst, arith, Some}
-use Rattle.std.specs.Prelude.{codes, slice_get, map, nat_le, IsOk}
+use Rattle.std.proofs.Common.{◌≡◌, ℕ, ◌+◌, ◌<◌, ◌≤◌, Bool, true, false, List, [], take, sym, ap, ◌∙◌, subst, arith, Some}
+use Rattle.std.specs.Prelude.{codes, slice_get, map, IsOk}
 use Rattle.std.specs.List.{AllZip}
-use Rattle.std.proofs.lemmas.Bool.{leb-true, leb-false, and_parts}
 use Rattle.byte_ends.specs.Text.{words}
 use Rattle.unix_calls.specs.declared.work.Work.{Work}
 use Rattle.unix_calls.specs.Work.{works, total_work, is_little}

@@ -1,7 +1,7 @@
 -- the fault of a schedule that is told is the least one
-use Rattle.std.proofs.Common.{◌≡◌, ◌⊎◌, inl, inr, ℕ, zero, suc, ◌+◌, ◌<◌, ◌≤◌, nat_le, Bool, true, false, List, [], ◌∷◌, ◌++◌, take, fold, refl, ap, sym, subst, ◌∙◌, arith, Option, Some, None, Result, Ok, Err}
+use Rattle.std.proofs.Common.{◌≡◌, ◌⊎◌, inl, inr, ℕ, zero, suc, ◌+◌, ◌<◌, ◌≤◌, nat_le, true, false, List, [], ◌∷◌, ◌++◌, take, fold, refl, ap, sym, subst, ◌∙◌, arith, Option, Some, None, Result, Ok, Err}
 use Rattle.unix_calls.specs.declared.limits.TheConstants.{MOST_TURNS}
-use Rattle.std.specs.Prelude.{if◌then◌else◌, slice_get}
+use Rattle.std.specs.Prelude.{slice_get}
 use Rattle.std.specs.Str.{is_utf8}
 use Rattle.std.proofs.lemmas.Bool.{cases_Bool}
 use Rattle.std.proofs.lemmas.Bool.Decides.{nat_tests}
@@ -13,7 +13,7 @@ use Rattle.script_words.specs.declared.Kind.TheVariants.{NotUtf8, TooManyTurns}
 use Rattle.script_words.specs.declared.Fault.{Fault}
 use Rattle.script_words.specs.Words.{Row, ◌>>=◌, is_skipped}
 use Rattle.run_text.specs.Schedule.{SoFar, turn_of, counted, read_turn, added, after_line, turns_of, schedule}
-use Rattle.run_text.specs.Faults.{IsWrong, SaysTurn, CountsAs, SumTo, Aspect, text, wording, turns, rank, HasFault, IsNotBefore, IsLeastFault, LeastIsTold}
+use Rattle.run_text.specs.Faults.{IsWrong, CountsAs, SumTo, Aspect, text, wording, turns, rank, HasFault, IsNotBefore, IsLeastFault, LeastIsTold}
 use Rattle.run_text.proofs.FaultWords.{some_words, Told, turn_told, is_wrong_same, says_count, skipped_unsaid}
 
 -- ---- sums of turns

@@ -1,5 +1,5 @@
 -- the words of a line: they say a turn, or the first wrong one is told
-use Rattle.std.proofs.Common.{◌≡◌, ◌⊎◌, inl, inr, ℕ, suc, ◌<◌, ◌≤◌, nat_lt, nat_le, Bool, true, false, not, ◌==◌, List, [], ◌∷◌, length, filter, refl, ap, sym, subst, ◌∙◌, arith, codes, Result, Ok, Err}
+use Rattle.std.proofs.Common.{◌≡◌, ◌⊎◌, inl, inr, ℕ, suc, ◌<◌, nat_lt, nat_le, true, false, not, ◌==◌, List, [], ◌∷◌, length, filter, refl, ap, sym, subst, ◌∙◌, arith, codes, Result, Ok, Err}
 use Rattle.std.specs.Prelude.{if◌then◌else◌}
 use Rattle.std.specs.List.{slice_split}
 use Rattle.std.specs.Str.Parse.{digits_value}
@@ -15,7 +15,7 @@ use Rattle.script_words.specs.Words.{Word, Row, ◌>>=◌, is_same, word_at, is_
 use Rattle.script_words.proofs.Numbers.{is_number-decides}
 use Rattle.std.proofs.lemmas.Slice.Eq.{bytes_eq-Decides}
 use Rattle.run_text.specs.Schedule.{turn_of}
-use Rattle.run_text.specs.Faults.{Place, node, number, Begins, Fits, Misfits, AreWrong, IsWrong, Spells, SaysTurn}
+use Rattle.run_text.specs.Faults.{Place, node, number, Begins, Fits, Misfits, AreWrong, IsWrong, SaysTurn}
 
 -- ---- words are never empty
 abbrev pub AreSome : Row → Type 0
