@@ -5,7 +5,7 @@ use Rattle.std.specs.List.{list_any}
 use Rattle.unix_names.specs.declared.Name.{Name}
 use Rattle.record_bag.specs.declared.Held.{Held}
 use Rattle.record_bag.specs.declared.Bag.{Bag}
-use Rattle.record_bag.specs.Names.{is_before}
+use Rattle.unix_names.specs.Names.{is_before}
 use Rattle.record_bag.specs.Bags.{is_held, with_held, held_names}
 use Rattle.record_bag.proofs.HeldLaws.{is_held-more, any-held_put}
 use Rattle.courier_core.specs.declared.courier.Courier.{Courier}
