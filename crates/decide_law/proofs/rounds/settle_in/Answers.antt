@@ -1,0 +1,12 @@
+use Rattle.std.proofs.Common.{◌∙◌, sym, ap}
+use Rattle.list_laws.proofs.Filters.{some_same}
+use Rattle.decide_law.proofs.PutBack.{settled_put}
+use Rattle.decide_law.proofs.rounds.settle_in.Goals as goal
+use Rattle.decide_law.specs.Effects.{same}
+
+pub returns-clause-bag : goal.returns-clause-bag
+returns-clause-bag c = λ u here.
+    let base = c.requires.base in
+    let same = some_same _ _ (some_same _ _ (sym c.in-Some.ensures.before ∙ base.vproc_is)) in
+    settled_put c.args.bag.now c.args.pid u c.in-Some.v _ c.in-Some-replace.g _ _ _ _ _ c.both_rise.ensures.vprocs c.both_rise.ensures.groups c.in-Some.ensures.before c.in-Some-replace.ensures.before (ap (λ v. v.pid) same ∙ base.pid)
+    c.in-Some.ensures.after c.in-Some-replace.ensures.after c.take_in.ensures.vproc c.take_in.ensures.group c.replace-3.ensures.after c.replace-4.ensures.after here
