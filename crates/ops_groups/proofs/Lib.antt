@@ -1,0 +1,7 @@
+pub mod Moved
+pub mod Wakes
+pub mod Move
+pub mod Refusals
+pub mod Whole
+pub mod Lookups
+pub mod Steps

@@ -1,0 +1,4 @@
+pub mod Refusals
+pub mod Whole
+pub mod Actions
+pub mod Steps

@@ -1,0 +1,3 @@
+pub mod Kill
+pub mod Actions
+pub mod Decide
