@@ -12,10 +12,16 @@ use Rattle.record_bag.specs.declared.vector.Outcome.TheVariants as outcome
 use Rattle.record_bag.specs.Bags.{present}
 use Rattle.record_bag.specs.Decisions.{Answered, answered}
 use Rattle.decide_law.specs.Agrees.{vproc_at, group_at}
-use Rattle.decide_law.specs.Effects.{Effect, folded, emptied, settled_in, trimmed_in, written, decided_by, done_by, on_vproc, on_group, on_base}
+use Rattle.decide_law.specs.Effects.{Effect, folded, emptied, settled_in, trimmed_in, written, decided_by, done_by, on_vproc, on_group, on_base, quiet}
 use Rattle.decide_law.specs.Footprints.{call_footprint}
 use Rattle.decide_law.specs.Answer.{on_footprint}
 use Rattle.decide_law.specs.Parts.{CallEffect, answer_by, decide_by}
+use Rattle.decide_law.specs.Base.{HasBase}
+use Rattle.decide_law.proofs.PutBack.{same_bag}
+use Rattle.unix_calls.specs.declared.Reply.{Reply}
+use Rattle.unix_calls.specs.declared.Phase.TheVariants as phase
+use Rattle.unix_calls.specs.declared.Entry.TheVariants.{Called}
+use Rattle.signal_state.specs.Signals.{Signals}
 
 -- on a base that is there
 pub base_answer : (answer : Vproc → Group → Answered) (p : Pid) (bag : Bag) (v : Vproc) (g : Group) → vproc_at bag p ≡ Some (Some v) → group_at bag v.group ≡ Some (Some g) → on_base answer p bag ≡ answer v g
@@ -32,3 +38,11 @@ pub parts_whole : (x : Effect) (p id : Pid) (v : Vproc) (o : Outcome) (bag settl
 parts_whole x p id v o bag settled wrote left at is then_wrote trimmed out =
     ap (λ (y : Outcome). answered y left) out
     ∙ ap (answered (outcome.Done (decided_by x))) (trimmed ∙ ap (λ (i : Pid). trimmed_in i wrote) at ∙ ap (trimmed_in v.group) (then_wrote ∙ ap (written x) is))
+
+-- a call that changes no record, and of the caller's signals what it says: as the code makes it
+pub signals_done : (call : Call) (effect : CallEffect) (reply : Reply) (sig : Signals) (p id : Pid) (own : Own) (bag settled left : Bag) (base : HasBase own p bag) (o : Outcome) → call_footprint bag base.vproc call ≡ [] →
+    effect (settled_in p base.vproc.group bag) (folded own base.vproc base.group).sig p (emptied base.vproc) ≡ quiet (Some (Called p call reply)) sig phase.Ready → id ≡ base.vproc.group → settled ≡ settled_in p base.vproc.group bag → left ≡ trimmed_in id settled →
+    o ≡ outcome.Done (record { entry = Some (Called p call reply); own = record { sig = sig; taken = 0 }; phase = phase.Ready; born = None; nudges = [] }) → answered o left ≡ decide_by call effect p own bag
+signals_done call effect reply sig p id own bag settled left base o none is at was trimmed out =
+    parts_whole (quiet (Some (Called p call reply)) sig phase.Ready) p id base.vproc o bag settled settled left at was (sym (same_bag settled)) trimmed out
+    ∙ sym (call_done call effect p own bag base.vproc base.group base.vproc_is base.group_is none ∙ ap (done_by p base.vproc bag) is)

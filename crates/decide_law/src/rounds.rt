@@ -42,12 +42,14 @@ fn take_in(own: &mut Own, v: &mut Vproc, g: &mut Group)
     settle(own, v, g);
 }
 
-/// The process takes in its tail, and is settled. Answers its group. It takes no memory.
+/// The process takes in its tail, and is settled. Answers its group, which is there. It takes no memory.
 pub fn settle_in(own: &mut Own, pid: Pid, bag: &mut Bag) -> Pid
     requires base { HasBase own.old pid bag.old }
     ensures group { (v : TheVproc) → vproc_at bag.old pid ≡ Some (Some v) → result ≡ v.group }
     ensures own { (v : TheVproc) (g : TheGroup) → vproc_at bag.old pid ≡ Some (Some v) → group_at bag.old v.group ≡ Some (Some g) → own.new ≡ folded own.old v g }
     ensures bag { (v : TheVproc) → vproc_at bag.old pid ≡ Some (Some v) → bag.new ≡ settled_in pid v.group bag.old }
+    ensures held { IsSome (group_at bag.new result) }
+    ensures within { (g : TheGroup) → group_at bag.new result ≡ Some (Some g) → All (λ m. m.from ≤ length g.log) g.members }
 {
     both_rise(bag);
     let Some(mut v) = bag.vprocs.replace(pid, None) else {
