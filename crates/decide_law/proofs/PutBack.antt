@@ -19,7 +19,7 @@ use Rattle.record_bag.specs.Decisions.{answered}
 use Rattle.decide_law.specs.Agrees.{vproc_at, group_at}
 use Rattle.decide_law.specs.Base.{HasBase}
 use Rattle.decide_law.proofs.Records.{only_same}
-use Rattle.decide_law.proofs.Changes.{group_changed}
+use Rattle.decide_law.proofs.Changes.{group_changed, vproc_changed}
 use Rattle.decide_law.specs.Effects.{only, changed, same, emptied, settled_for, settled_in, trimmed_in, folded, quiet, done_by}
 use Rattle.decide_law.proofs.Tables.{put_back, put_is_each}
 
@@ -60,3 +60,8 @@ base_settled own p id bag b h at is =
 
 pub base_within : (own : Own) (p id : Pid) (bag b : Bag) (h : HasBase own p bag) → id ≡ h.vproc.group → b ≡ settled_in p h.vproc.group bag → (g : Group) → group_at b id ≡ Some (Some g) → All (λ m. m.from ≤ length g.log) g.members
 base_within own p id bag b h at is g e = subst (λ (x : Group). All (λ m. m.from ≤ length x.log) x.members) (some_same _ _ (some_same _ _ (sym (base_settled own p id bag b h at is) ∙ e))) (within-settled h.group p h.within)
+
+-- and its record
+pub base_emptied : (own : Own) (p : Pid) (bag b : Bag) (h : HasBase own p bag) → b ≡ settled_in p h.vproc.group bag → vproc_at b p ≡ Some (Some (emptied h.vproc))
+base_emptied own p bag b h is =
+    ap (λ (x : Bag). vproc_at x p) is ∙ vproc_changed (only p (option_map emptied)) (only h.vproc.group (option_map (settled_for p))) bag p ∙ ap (option_map (only p (option_map emptied) p)) h.vproc_is ∙ ap Some (only_same p (option_map emptied) p (Some h.vproc) refl)

@@ -40,9 +40,10 @@ parts_whole x p id v o bag settled wrote left at is then_wrote trimmed out =
     ∙ ap (answered (outcome.Done (decided_by x))) (trimmed ∙ ap (λ (i : Pid). trimmed_in i wrote) at ∙ ap (trimmed_in v.group) (then_wrote ∙ ap (written x) is))
 
 -- a call that changes no record, and of the caller's signals what it says: as the code makes it
-pub signals_done : (call : Call) (effect : CallEffect) (reply : Reply) (sig : Signals) (p id : Pid) (own : Own) (bag settled left : Bag) (base : HasBase own p bag) (o : Outcome) → call_footprint bag base.vproc call ≡ [] →
+pub signals_done : (call : Call) (effect : CallEffect) (reply : Reply) (sig : Signals) (p id : Pid) (own : Own) (bag settled left : Bag) (base : HasBase own p bag) (o : Outcome) (answer : Reply) (carried : Own) → call_footprint bag base.vproc call ≡ [] →
     effect (settled_in p base.vproc.group bag) (folded own base.vproc base.group).sig p (emptied base.vproc) ≡ quiet (Some (Called p call reply)) sig phase.Ready → id ≡ base.vproc.group → settled ≡ settled_in p base.vproc.group bag → left ≡ trimmed_in id settled →
-    o ≡ outcome.Done (record { entry = Some (Called p call reply); own = record { sig = sig; taken = 0 }; phase = phase.Ready; born = None; nudges = [] }) → answered o left ≡ decide_by call effect p own bag
-signals_done call effect reply sig p id own bag settled left base o none is at was trimmed out =
-    parts_whole (quiet (Some (Called p call reply)) sig phase.Ready) p id base.vproc o bag settled settled left at was (sym (same_bag settled)) trimmed out
+    o ≡ outcome.Done (record { entry = Some (Called p call answer); own = carried; phase = phase.Ready; born = None; nudges = [] }) → answer ≡ reply → carried ≡ record { sig = sig; taken = 0 } → answered o left ≡ decide_by call effect p own bag
+signals_done call effect reply sig p id own bag settled left base o answer carried none is at was trimmed out told kept =
+    parts_whole (quiet (Some (Called p call reply)) sig phase.Ready) p id base.vproc o bag settled settled left at was (sym (same_bag settled)) trimmed
+    (out ∙ ap (λ (r : Reply). outcome.Done (record { entry = Some (Called p call r); own = carried; phase = phase.Ready; born = None; nudges = [] })) told ∙ ap (λ (x : Own). outcome.Done (record { entry = Some (Called p call reply); own = x; phase = phase.Ready; born = None; nudges = [] })) kept)
     ∙ sym (call_done call effect p own bag base.vproc base.group base.vproc_is base.group_is none ∙ ap (done_by p base.vproc bag) is)

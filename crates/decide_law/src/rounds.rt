@@ -48,6 +48,7 @@ pub fn settle_in(own: &mut Own, pid: Pid, bag: &mut Bag) -> Pid
     ensures group { (v : TheVproc) → vproc_at bag.old pid ≡ Some (Some v) → result ≡ v.group }
     ensures own { (v : TheVproc) (g : TheGroup) → vproc_at bag.old pid ≡ Some (Some v) → group_at bag.old v.group ≡ Some (Some g) → own.new ≡ folded own.old v g }
     ensures bag { (v : TheVproc) → vproc_at bag.old pid ≡ Some (Some v) → bag.new ≡ settled_in pid v.group bag.old }
+    ensures vproc { IsSome (vproc_at bag.new pid) }
     ensures held { IsSome (group_at bag.new result) }
     ensures within { (g : TheGroup) → group_at bag.new result ≡ Some (Some g) → All (λ m. m.from ≤ length g.log) g.members }
 {

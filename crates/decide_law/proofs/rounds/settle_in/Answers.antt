@@ -1,6 +1,6 @@
 use Rattle.std.proofs.Common.{◌∙◌, ◌≡◌, IsSome, refl, sym, ap, subst}
 use Rattle.list_laws.proofs.Filters.{some_same}
-use Rattle.decide_law.proofs.PutBack.{settled_put, base_settled, base_within}
+use Rattle.decide_law.proofs.PutBack.{settled_put, base_settled, base_emptied, base_within}
 use Rattle.decide_law.proofs.rounds.settle_in.Goals as goal
 
 pub returns-clause-bag : goal.returns-clause-bag
@@ -21,3 +21,6 @@ returns-clause-within c =
     let base = c.requires.base in
     let same = some_same _ _ (some_same _ _ (sym c.in-Some.ensures.before ∙ base.vproc_is)) in
     base_within c.args.own.now c.args.pid _ c.args.bag.now _ base (ap (λ v. v.group) same) (returns-clause-bag c base.vproc base.vproc_is)
+
+pub returns-clause-vproc : goal.returns-clause-vproc
+returns-clause-vproc c = let base = c.requires.base in subst IsSome (sym (base_emptied c.args.own.now c.args.pid c.args.bag.now _ base (returns-clause-bag c base.vproc base.vproc_is))) refl
