@@ -1,4 +1,5 @@
 pub mod LookStep
+pub mod NeedParts
 pub mod RoundParts
 pub mod Gathered
 pub mod PartRight

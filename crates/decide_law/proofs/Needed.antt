@@ -140,7 +140,7 @@ with_some n (m ∷ ms) = go (is_before n m) (is_before m n)
     go false true = refl
     go false false = refl
 
-order_some : (ns : List Name) → is_none ns ≡ false → is_none (in_order ns) ≡ false
+pub order_some : (ns : List Name) → is_none ns ≡ false → is_none (in_order ns) ≡ false
 order_some [] e = cc
 order_some (n ∷ ns) e = with_some n (in_order ns)
 

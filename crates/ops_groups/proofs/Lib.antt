@@ -3,5 +3,5 @@ pub mod Wakes
 pub mod Move
 pub mod Refusals
 pub mod Whole
-pub mod Lookups
+pub mod LookSteps
 pub mod Steps

@@ -4,7 +4,7 @@ use Rattle.unix_calls.specs.declared.Call.TheVariants.{Getpid, Getppid, Getpgid,
 use Rattle.decide_law.specs.Parts.{IsCallStep, IsCallAnswered}
 use Rattle.decide_law.proofs.PartRight.{call_answered}
 use Rattle.ops_groups.specs.Decide.{IsGroupsCall, effect_of, GroupsCallsAnswered}
-use Rattle.ops_groups.proofs.Lookups.{getpid_is_step, getppid_is_step, getpgid_is_step, getsid_is_step}
+use Rattle.ops_groups.proofs.LookSteps.{getpid_is_step, getppid_is_step, getpgid_is_step, getsid_is_step}
 use Rattle.ops_groups.proofs.Whole.{setpgid_is_step}
 
 pub groups_steps : (call : Call) → IsGroupsCall call → IsCallStep call (effect_of call)

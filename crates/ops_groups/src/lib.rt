@@ -3,6 +3,10 @@
 
 ghost use Rattle.ops_groups.specs.Decide.{GroupsCallsAnswered};
 
+mod lookups;
+
+pub use lookups::{decide_getpid, decide_getppid};
+
 /// Each call of this part is answered by a step of the one kernel, or by asking for what lacks.
 pub fn groups_calls_are_steps()
     ensures { GroupsCallsAnswered }
