@@ -7,6 +7,6 @@ mod rounds;
 mod tally;
 
 pub use base::{base_need, folded};
-pub use needs::want;
+pub use needs::{is_none, want};
 pub use rounds::{done_quiet, finish, settle_in, trim_in};
 pub use tally::{count_links, count_stopped};

@@ -1,7 +1,7 @@
 // The names that a decision needs and that are not held.
 ghost use Rattle.std.specs.Prelude.{◌≡◌, ◌∷◌, [], slice_get, OnOk, OnErr};
 ghost use Rattle.record_bag.specs.Names.{is_before};
-ghost use Rattle.decide_law.specs.Footprints.{with_name};
+ghost use Rattle.decide_law.specs.Footprints.{with_name, is_none};
 ghost use Rattle.decide_law.specs.MethodNeeds.{passed, not_before, wanted};
 
 use record_bag::Bag;
@@ -64,4 +64,11 @@ pub fn want(names: &mut Seq<Name>, bag: &Bag, name: Name) -> Result<(), NoMemory
     } else {
         add(names, name)
     }
+}
+
+/// Whether no name is needed.
+pub fn is_none(names: &Seq<Name>) -> bool
+    ensures { result ≡ is_none names.now }
+{
+    matches!(names.as_slice(), [])
 }

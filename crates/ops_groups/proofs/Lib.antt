@@ -4,4 +4,5 @@ pub mod Move
 pub mod Refusals
 pub mod Whole
 pub mod LookSteps
+pub mod LookCode
 pub mod Steps
