@@ -1,0 +1,80 @@
+-- who is a member after the changes of a group's record, and with which user id
+use Rattle.std.proofs.Common.{◌≡◌, ◌≢◌, ◌==◌, ◌≤◌, ℕ, Bool, true, false, cond, not, List, [], ◌∷◌, ◌++◌, length, refl, sym, ap, ◌∙◌, arith, Option, None, Some}
+use Rattle.std.specs.Prelude.{map, filter, is_some, All}
+use Rattle.std.specs.Option.{option_map}
+use Rattle.std.proofs.lemmas.Bool.{eqb-true, eqb-false, ne_eqb}
+use Rattle.list_laws.specs.Keyed.{at, Distinct}
+use Rattle.list_laws.proofs.Finding.{at-map, same_number}
+use Rattle.unix_names.specs.declared.Pid.{Pid}
+use Rattle.group_record.specs.declared.member.Member.{Member}
+use Rattle.group_record.specs.declared.group.Group.{Group}
+use Rattle.group_record.specs.Members.{member_number, member_of, has_member, uid_of, begun_at}
+use Rattle.group_record.specs.Groups.{joined, left, settled}
+
+-- ---- leaving
+-- who left is no member
+pub member_of-left_own : (g : Group) (p : Pid) → member_of (left g p).members p ≡ None
+member_of-left_own g p = go g.members
+  where
+    step : (m : Member) (ms : List Member) (b : Bool) → (m.pid.0 == p.0) ≡ b → at member_number p.0 (filter (λ m. not (m.pid.0 == p.0)) ms) ≡ None → at member_number p.0 (cond (not b) (m ∷ filter (λ m. not (m.pid.0 == p.0)) ms) (filter (λ m. not (m.pid.0 == p.0)) ms)) ≡ None
+    step m ms true e h = h
+    step m ms false e h = rw e h
+
+    go : (ms : List Member) → at member_number p.0 (filter (λ m. not (m.pid.0 == p.0)) ms) ≡ None
+    go [] = refl
+    go (m ∷ ms) = step m ms (m.pid.0 == p.0) refl (go ms)
+
+-- ---- changes of members that keep their pids and user ids
+pub uid_of-kept : (f : Member → Member) → ((m : Member) → member_number (f m) ≡ member_number m) → ((m : Member) → (f m).uid ≡ m.uid) → (ms : List Member) (q : Pid) → uid_of (map f ms) q ≡ uid_of ms q
+uid_of-kept f p u ms q = ap (option_map (λ (m : Member). m.uid)) (at-map member_number member_number f p q.0 ms) ∙ go (at member_number q.0 ms)
+  where
+    go : (o : Option Member) → option_map (λ (m : Member). m.uid) (option_map f o) ≡ option_map (λ (m : Member). m.uid) o
+    go None = refl
+    go (Some m) = ap Some (u m)
+
+pub begun_at-number : (from : ℕ) (p : Pid) (m : Member) → member_number (begun_at from p m) ≡ member_number m
+begun_at-number from p m = go (m.pid.0 == p.0)
+  where
+    go : (b : Bool) → member_number (cond b (record m { from = from }) m) ≡ member_number m
+    go true = refl
+    go false = refl
+
+pub begun_at-uid : (from : ℕ) (p : Pid) (m : Member) → (begun_at from p m).uid ≡ m.uid
+begun_at-uid from p m = go (m.pid.0 == p.0)
+  where
+    go : (b : Bool) → (cond b (record m { from = from }) m).uid ≡ m.uid
+    go true = refl
+    go false = refl
+
+-- ---- settling beside leaving and joining
+-- who leaves may have been settled first
+pub left-settled : (g : Group) (p : Pid) → left (settled g p) p ≡ left g p
+left-settled g p = ap (λ ms. record g { members = ms }) (go g.members)
+  where
+    step : (m : Member) (b : Bool) → (m.pid.0 == p.0) ≡ b → (rest more : List Member) → rest ≡ more →
+        cond (not ((cond b (record m { from = length g.log }) m).pid.0 == p.0)) (cond b (record m { from = length g.log }) m ∷ rest) rest ≡ cond (not (m.pid.0 == p.0)) (m ∷ more) more
+    step m true e rest more same = ap (λ (c : Bool). cond (not c) ((record m { from = length g.log }) ∷ rest) rest) e ∙ same ∙ sym (ap (λ (c : Bool). cond (not c) (m ∷ more) more) e)
+    step m false e rest more same = ap (λ l. cond (not (m.pid.0 == p.0)) (m ∷ l) l) same
+
+    go : (ms : List Member) → filter (λ m. not (m.pid.0 == p.0)) (map (begun_at (length g.log) p) ms) ≡ filter (λ m. not (m.pid.0 == p.0)) ms
+    go [] = refl
+    go (m ∷ ms) = step m (m.pid.0 == p.0) refl (filter (λ m. not (m.pid.0 == p.0)) (map (begun_at (length g.log) p) ms)) (filter (λ m. not (m.pid.0 == p.0)) ms) (go ms)
+
+-- who has just joined has nothing to settle
+pub settled-joined : (g : Group) (p : Pid) (uid : ℕ) → has_member g.members p ≡ false → settled (joined g p uid) p ≡ joined g p uid
+settled-joined g p uid absent = ap (λ ms. record (joined g p uid) { members = ms }) (go g.members absent)
+  where
+    new : Member
+    new = record { pid = p; from = length g.log; uid = uid }
+
+    last : begun_at (length g.log) p (record { pid = p; from = length g.log; uid = uid }) ≡ record { pid = p; from = length g.log; uid = uid }
+    last = ap (λ (b : Bool). cond b (record { pid = p; from = length g.log; uid = uid }) (record { pid = p; from = length g.log; uid = uid })) (same_number p.0)
+
+    step : (m : Member) (ms : List Member) (b : Bool) → (m.pid.0 == p.0) ≡ b → is_some (cond b (Some m) (member_of ms p)) ≡ false →
+        (has_member ms p ≡ false → map (begun_at (length g.log) p) (ms ++ new ∷ []) ≡ ms ++ new ∷ []) → map (begun_at (length g.log) p) ((m ∷ ms) ++ new ∷ []) ≡ (m ∷ ms) ++ new ∷ []
+    step m ms true e h rest = cc
+    step m ms false e h rest = ap (λ (b : Bool). cond b (record m { from = length g.log }) m ∷ map (begun_at (length g.log) p) (ms ++ new ∷ [])) e ∙ ap (λ l. m ∷ l) (rest h)
+
+    go : (ms : List Member) → has_member ms p ≡ false → map (begun_at (length g.log) p) (ms ++ new ∷ []) ≡ ms ++ new ∷ []
+    go [] h = ap (λ (m : Member). m ∷ []) last
+    go (m ∷ ms) h = step m ms (m.pid.0 == p.0) refl h (go ms)
