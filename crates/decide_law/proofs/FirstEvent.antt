@@ -19,7 +19,7 @@ use Rattle.kernel_choice.specs.Choice.{event_of, first_event}
 use Rattle.decide_law.specs.Agrees.{IsGroupOf}
 use Rattle.decide_law.specs.Told.{has_default, event_by, event_told}
 use Rattle.decide_law.specs.Footprints as footprint
-use Rattle.decide_law.proofs.Lists.{find_passes}
+use Rattle.list_laws.proofs.Firsts.{find_passes}
 
 -- a group is orphaned exactly where its count of links is 0
 pub orphaned_told : (rows : List Row) (id : Pid) (g : Group) → IsGroupOf rows id g → footprint.is_orphaned g ≡ is_orphaned rows id

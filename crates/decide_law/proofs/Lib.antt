@@ -21,7 +21,6 @@ pub mod Held
 pub mod Told
 pub mod Plain
 pub mod PlainStep
-pub mod Lists
 pub mod Tables
 pub mod PutBack
 pub mod AppendStep

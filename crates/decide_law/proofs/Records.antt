@@ -16,6 +16,7 @@ use Rattle.kernel_rules.specs.declared.Row.{Row}
 use Rattle.kernel_rules.specs.Rows.{row_of, in_group, AreDistinct}
 use Rattle.decide_law.specs.Agrees.{VprocAgrees, IsGroupOf, GroupAgrees}
 use Rattle.decide_law.specs.Effects.{only, emptied, settled_for}
+use Rattle.group_record.proofs.MemberLaws.{uid_of-kept, begun_at-number, begun_at-uid}
 
 -- ---- rows
 abbrev pub number : Row → ℕ
@@ -58,38 +59,16 @@ member_has rows id g q r k here i = go (member_of g.members q) (k.members q ∙ 
     go None e = cc
     go (Some m) e = refl
 
--- a change of members that keeps their pids and user ids
-pub uids_kept : (f : Member → Member) → ((m : Member) → member_number (f m) ≡ member_number m) → ((m : Member) → (f m).uid ≡ m.uid) → (ms : List Member) (q : Pid) → uid_of (map f ms) q ≡ uid_of ms q
-uids_kept f p u ms q = ap (option_map (λ (m : Member). m.uid)) (at-map member_number member_number f p q.0 ms) ∙ go (at member_number q.0 ms)
-  where
-    go : (o : Option Member) → option_map (λ (m : Member). m.uid) (option_map f o) ≡ option_map (λ (m : Member). m.uid) o
-    go None = refl
-    go (Some m) = ap Some (u m)
-
 pub not_empty : (f : Member → Member) (ms : List Member) → ms ≢ [] → map f ms ≢ []
 not_empty f [] n = n
 not_empty f (m ∷ ms) n = λ e. cc
-
-begun_number : (from : ℕ) (p : Pid) (m : Member) → member_number (begun_at from p m) ≡ member_number m
-begun_number from p m = go (m.pid.0 == p.0)
-  where
-    go : (b : Bool) → member_number (cond b (record m { from = from }) m) ≡ member_number m
-    go true = refl
-    go false = refl
-
-begun_uid : (from : ℕ) (p : Pid) (m : Member) → (begun_at from p m).uid ≡ m.uid
-begun_uid from p m = go (m.pid.0 == p.0)
-  where
-    go : (b : Bool) → (cond b (record m { from = from }) m).uid ≡ m.uid
-    go true = refl
-    go false = refl
 
 -- ---- trimming and settling keep agreement
 pub trimmed_group : (rows : List Row) (id : Pid) (g : Group) → IsGroupOf rows id g → IsGroupOf rows id (trimmed g)
 trimmed_group rows id g k = record {
   id_is = k.id_is;
   distinct = distinct-map member_number member_number (lowered (least_from g.members)) (λ _. refl) g.members k.distinct;
-  members = λ q. uids_kept (lowered (least_from g.members)) (λ _. refl) (λ _. refl) g.members q ∙ k.members q;
+  members = λ q. uid_of-kept (lowered (least_from g.members)) (λ _. refl) (λ _. refl) g.members q ∙ k.members q;
   session = k.session;
   from = within-trimmed g k.from;
   links = k.links;
@@ -99,8 +78,8 @@ trimmed_group rows id g k = record {
 pub settled_group : (rows : List Row) (id p : Pid) (g : Group) → IsGroupOf rows id g → IsGroupOf rows id (settled g p)
 settled_group rows id p g k = record {
   id_is = k.id_is;
-  distinct = distinct-map member_number member_number (begun_at (length g.log) p) (begun_number (length g.log) p) g.members k.distinct;
-  members = λ q. uids_kept (begun_at (length g.log) p) (begun_number (length g.log) p) (begun_uid (length g.log) p) g.members q ∙ k.members q;
+  distinct = distinct-map member_number member_number (begun_at (length g.log) p) (begun_at-number (length g.log) p) g.members k.distinct;
+  members = λ q. uid_of-kept (begun_at (length g.log) p) (begun_at-number (length g.log) p) (begun_at-uid (length g.log) p) g.members q ∙ k.members q;
   session = k.session;
   from = within-settled g p k.from;
   links = k.links;

@@ -30,7 +30,7 @@ use Rattle.decide_law.proofs.Records.{number, distinct, pid_same}
 use Rattle.decide_law.proofs.Counts.{passes_same}
 use Rattle.decide_law.proofs.Held.{held_flat}
 use Rattle.decide_law.specs.Parts.{EachHeld}
-use Rattle.decide_law.proofs.Lists.{find-same, find-views, find_passes, find_own}
+use Rattle.list_laws.proofs.Firsts.{find-same, find-views, find_passes, find_own}
 use Rattle.decide_law.proofs.Shell.{own_record}
 use Rattle.decide_law.proofs.Told.{child_listed}
 use Rattle.ops_exit_wait.specs.Waitpid.{has_match}

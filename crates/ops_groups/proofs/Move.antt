@@ -34,8 +34,9 @@ use Rattle.decide_law.proofs.Changes.{vproc_changed, group_changed, names_change
 use Rattle.ops_groups.specs.Setpgid.{setpgid_entry, moved_members, moved_vproc, moved_group}
 use Rattle.ops_groups.specs.MoveLaw.{Moves, MoveLaw}
 use Rattle.ops_groups.proofs.Wakes.{move_wakes}
-use Rattle.ops_groups.proofs.Moved.{later, row_later, comes_from, still, taken_to, vproc_later, far_link, left_own, other_member, members_later, distinct_later, from_later, links_later, stopped_later}
+use Rattle.ops_groups.proofs.Moved.{later, row_later, comes_from, still, taken_to, vproc_later, far_link, other_member, members_later, distinct_later, from_later, links_later, stopped_later}
 use Rattle.decide_law.specs.Nudges.{named_by, moved_nudges, but_system}
+use Rattle.group_record.proofs.MemberLaws.{member_of-left_own}
 
 -- ---- one group
 session_later : (rows : List Row) (u : Vproc) (x : Row) (new id session : Pid) → row_of rows u.pid ≡ Some x → x.session ≡ u.session → (new.0 ≡ id.0 → session ≡ u.session) →
@@ -87,7 +88,7 @@ log_own : (bag : Bag) (u : Vproc) (old : Group) (new id : Pid) (g : Group) → i
 log_own bag u old new id g e = go (is_same new id) e
   where
     go : (b : Bool) → b ≡ true → log_part u.pid u.uid (record g { members = moved_members b u g }) ≡ []
-    go true s = log_part-joined_own (left g u.pid) u.pid u.uid u.uid (ap is_some (left_own g u.pid))
+    go true s = log_part-joined_own (left g u.pid) u.pid u.uid u.uid (ap is_some (member_of-left_own g u.pid))
     go false s = cc
 
 nothing_sent : (rows : List Row) (p : Pid) (r : Row) (t : ℕ) (q : ℤ) (c : Row) → row_of rows p ≡ Some r → sent rows (setpgid_entry p t q) c ≡ []

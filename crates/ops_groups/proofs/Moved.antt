@@ -30,6 +30,7 @@ use Rattle.decide_law.proofs.Counts.{is_near, count_near, recount, passes_link, 
 use Rattle.decide_law.proofs.Changes.{vproc_changed}
 use Rattle.ops_groups.specs.Setpgid.{moved_members, moved_vproc, moved_vprocs, moved_group}
 use Rattle.ops_groups.specs.MoveLaw.{Moves}
+use Rattle.group_record.proofs.MemberLaws.{member_of-left_own}
 
 -- the table after the move
 abbrev pub later : Pid → Pid → List Row → List Row
@@ -136,21 +137,9 @@ pub far_stopped : (rows : List Row) (t new id : Pid) (c : Row) → is_near t c �
 far_stopped rows t new id c n = ap (is_stopped_in id) (sym (still t new c (eqb-false _ _ (neither (is_pid t c) (is_parent t c) n).0)))
 
 -- ---- members
--- who left is no member
-pub left_own : (g : Group) (p : Pid) → member_of (left g p).members p ≡ None
-left_own g p = go g.members
-  where
-    step : (m : Member) (ms : List Member) (b : Bool) → (m.pid.0 == p.0) ≡ b → at member_number p.0 (filter (λ m. not (m.pid.0 == p.0)) ms) ≡ None → at member_number p.0 (cond (not b) (m ∷ filter (λ m. not (m.pid.0 == p.0)) ms) (filter (λ m. not (m.pid.0 == p.0)) ms)) ≡ None
-    step m ms true e h = h
-    step m ms false e h = rw e h
-
-    go : (ms : List Member) → at member_number p.0 (filter (λ m. not (m.pid.0 == p.0)) ms) ≡ None
-    go [] = refl
-    go (m ∷ ms) = step m ms (m.pid.0 == p.0) refl (go ms)
-
 own_member : (g : Group) (u : Vproc) (b : Bool) → uid_of (moved_members b u g) u.pid ≡ option_map (λ (n : ℕ). n) (cond b (Some u.uid) None)
-own_member g u true = ap (option_map (λ (m : Member). m.uid)) (member_of-joined_own (left g u.pid) u.pid u.uid (ap is_some (left_own g u.pid)))
-own_member g u false = ap (option_map (λ (m : Member). m.uid)) (left_own g u.pid)
+own_member g u true = ap (option_map (λ (m : Member). m.uid)) (member_of-joined_own (left g u.pid) u.pid u.uid (ap is_some (member_of-left_own g u.pid)))
+own_member g u false = ap (option_map (λ (m : Member). m.uid)) (member_of-left_own g u.pid)
 
 pub other_member : (g : Group) (u : Vproc) (b : Bool) (q : Pid) → q.0 ≢ u.pid.0 → member_of (moved_members b u g) q ≡ member_of g.members q
 other_member g u true q ne = member_of-joined_other (left g u.pid) u.pid q u.uid ne ∙ member_of-left_other g u.pid q ne
@@ -187,7 +176,7 @@ members_later rows id new g u x k here of q = pick (q.0 == u.pid.0) refl
         ∙ ap (λ (o : Option Row). option_map (λ (c : Row). c.uid) (option_filter (in_group id) o)) (sym (row_later rows u.pid new q))
 
 pub distinct_later : (g : Group) (u : Vproc) (b : Bool) → Distinct member_number g.members → Distinct member_number (moved_members b u g)
-distinct_later g u true d = distinct-append member_number (left g u.pid).members (record { pid = u.pid; from = length g.log; uid = u.uid }) (left_own g u.pid) (distinct-filter member_number (λ m. not (m.pid.0 == u.pid.0)) g.members d)
+distinct_later g u true d = distinct-append member_number (left g u.pid).members (record { pid = u.pid; from = length g.log; uid = u.uid }) (member_of-left_own g u.pid) (distinct-filter member_number (λ m. not (m.pid.0 == u.pid.0)) g.members d)
 distinct_later g u false d = distinct-filter member_number (λ m. not (m.pid.0 == u.pid.0)) g.members d
 
 pub from_later : (g : Group) (u : Vproc) (b : Bool) → All (λ m. m.from ≤ length g.log) g.members → All (λ m. m.from ≤ length g.log) (moved_members b u g)
