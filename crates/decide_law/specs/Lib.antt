@@ -1,0 +1,15 @@
+pub mod Agrees
+pub mod Wakes
+pub mod Nudges
+pub mod Places
+pub mod Law
+pub mod Needs
+pub mod Vector
+pub mod Effects
+pub mod Counts
+pub mod Told
+pub mod Footprints
+pub mod Base
+pub mod Answer
+pub mod Parts
+pub mod MethodNeeds

@@ -1,0 +1,5 @@
+pub mod Taken
+pub mod Take
+pub mod Replies
+pub mod Whole
+pub mod Steps

@@ -1,0 +1,2 @@
+pub mod Waitpid
+pub mod Decide

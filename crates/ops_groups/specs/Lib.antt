@@ -1,0 +1,4 @@
+pub mod Setpgid
+pub mod MoveLaw
+pub mod Lookups
+pub mod Decide

@@ -1,0 +1,5 @@
+pub mod Refusals
+pub mod Whole
+pub mod Actions
+pub mod ActionCode
+pub mod Steps

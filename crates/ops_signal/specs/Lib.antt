@@ -1,0 +1,4 @@
+pub mod Kill
+pub mod Actions
+pub mod Decide
+pub mod MethodActions
