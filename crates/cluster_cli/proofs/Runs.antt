@@ -10,6 +10,7 @@ use Rattle.std.specs.Str.Parse.{digits_value}
 use Rattle.std.proofs.lemmas.Bool.{le-leb, leb-true, ltb-false}
 use Rattle.byte_ends.specs.Text.{lines, words, whole_lines, is_newline, strip_return, IsNumber}
 use Rattle.unix_calls.specs.declared.Turn.{Turn}
+use Rattle.unix_calls.specs.declared.Turn.TheVariants.{Auto}
 use Rattle.unix_calls.specs.declared.World.{World}
 use Rattle.unix_calls.specs.Valid.{IsValid}
 use Rattle.script_words.specs.declared.faults.Fault.{Fault}

@@ -24,7 +24,7 @@ use Rattle.unix_names.specs.declared.NoMemory.{NoMemory}
 use Rattle.std.specs.Prelude.{IfOk}
 use Rattle.cluster_cli.specs.Ends.{HasText}
 use Rattle.cluster_cli.specs.Found.{meaning, runnable}
-use Rattle.cluster_cli.specs.Input.{Means, fault_text}
+use Rattle.cluster_cli.specs.Input.{Means, fault_line}
 use Rattle.cluster_cli.specs.Replay.{run_text, Replays}
 use Rattle.cluster_cli.specs.Audit.{HasHistory, HasBadLine, verdict_status, IsVerdict, Judges, Audits}
 use Rattle.cluster_cli.specs.Laws.{HasOneAnswer}
@@ -33,7 +33,7 @@ use Rattle.cluster_cli.proofs.Meanings.{means_read, fault_told, run_read, refuse
 -- ---- replay
 abbrev RunOutcome : Status → List ℕ → Result Given Fault → Type 0
 RunOutcome status text (Ok g) = (status ≡ Done) × (text ≡ run_text (run g.world g.turns))
-RunOutcome status text (Err fault) = (status ≡ BadFile) × (text ≡ fault_text fault)
+RunOutcome status text (Err fault) = (status ≡ BadFile) × (text ≡ fault_line fault)
 
 one_run : (r : Result Given Fault) (text text' : List ℕ) (s s' : Status) → RunOutcome s text r → RunOutcome s' text' r → (s ≡ s') × (text ≡ text')
 one_run (Ok g) text text' s s' a b = (a.0 ∙ sym b.0, a.1 ∙ sym b.1)
@@ -100,7 +100,7 @@ one_spoken ls first world text text' s s' (inr a) (inr b) =
 -- ---- audit
 abbrev AuditOutcome : List ℕ → Status → List ℕ → Result Given Fault → Type 0
 AuditOutcome input s text (Ok g) = HasSpoken (history_lines (lines input)) (2 + length (front_lines (lines input))) g.world s text
-AuditOutcome input s text (Err fault) = (s ≡ BadFile) × (text ≡ fault_text fault)
+AuditOutcome input s text (Err fault) = (s ≡ BadFile) × (text ≡ fault_line fault)
 
 one_outcome : (input : List ℕ) (r : Result Given Fault) (text text' : List ℕ) (s s' : Status) → AuditOutcome input s text r → AuditOutcome input s' text' r → (s ≡ s') × (text ≡ text')
 one_outcome input (Ok g) text text' s s' a b = one_spoken (history_lines (lines input)) (2 + length (front_lines (lines input))) g.world text text' s s' a b
@@ -129,3 +129,9 @@ pub heard_text : (r : Result Answer NoMemory) (input : List ℕ) (given : Given)
 heard_text (Ok a) input given entries means history verdict =
     judged_audits a.status input a.text.items (record { given = given; entries = entries; reads = means; history = history; verdict = verdict })
 heard_text (Err e) input given entries means history verdict = tt
+
+pub bad_text : (r : Result Answer NoMemory) (input : List ℕ) (given : Given) (line : ℕ) → Means input given → HasBadLine (history_lines (lines input)) (2 + length (front_lines (lines input))) line
+    → IfOk r (λ a. a.status ≡ Illegal) → IfOk r (λ a. a.text.items ≡ bad_line_text line ++ codes "\n") → IfOk r (λ a. Audits a.status input a.text.items)
+bad_text (Ok a) input given line means bad status text =
+    subst (λ (x : Status). Audits x input a.text.items) (sym status) (inr (record { given = given; line = line; reads = means; bad = bad; writes = text }))
+bad_text (Err e) input given line means bad status text = tt
