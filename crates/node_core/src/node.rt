@@ -3,6 +3,7 @@ ghost use Rattle.std.specs.Prelude.{◌≡◌, ◌↔◌, ◌⊎◌, ℕ, Err, [
 ghost use Rattle.unix_calls.specs.Valid.{IsValid};
 ghost use Rattle.node_core.specs.Advance.{is_advanced};
 ghost use Rattle.node_core.specs.Conditions.{CanSetOut};
+ghost use Rattle.node_state.specs.Ready.{movable_count};
 ghost use Rattle.node_state.specs.Wires.{one_taken, sent_off};
 ghost use Rattle.node_core.specs.Turns.{led, going, pushed, arriving, came};
 
@@ -180,6 +181,13 @@ impl<O: OpVector> Node<O> {
         ensures { result ≡ slice_index self.now.state.taken from.0 }
     {
         self.state.taken.get(from.0 as usize).copied().unwrap_or(0)
+    }
+
+    /// How many images stand in the ready queue that are not stopped, of which a push could move the first. It takes no memory, and no walk.
+    pub fn ready(&self) -> usize
+        ensures { result ≡ movable_count self.now.state.ready }
+    {
+        self.state.ready.movable()
     }
 
     /// Whether nothing is to be done here: the node has failed, or nobody stands in the ready queue.

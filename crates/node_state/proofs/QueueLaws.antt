@@ -1,9 +1,10 @@
 -- the first image that is not stopped, behind those whom a push passes over
-use Rattle.std.proofs.Common.{◌≡◌, ◌∙◌, Bool, true, false, List, [], ◌∷◌, ◌++◌, None, Some, if◌then◌else◌, refl, sym, ap}
+use Rattle.std.proofs.Common.{◌≡◌, ◌∙◌, ◌+◌, ℕ, suc, Bool, true, false, not, cond, List, [], ◌∷◌, ◌++◌, length, Option, None, Some, is_some, ◌-◌, if◌then◌else◌, refl, sym, ap, subst, arith}
+use Rattle.std.specs.Prelude.{filter}
 use Rattle.proc_image.specs.declared.Image.{Image}
 use Rattle.node_state.specs.declared.ready.Waiting.{Waiting}
 use Rattle.node_state.specs.declared.ready.Waiting.TheVariants as waiting
-use Rattle.node_state.specs.Ready.{is_stopped_phase, first_movable, without_movable}
+use Rattle.node_state.specs.Ready.{is_stopped_phase, first_movable, without_movable, is_movable, movable_count}
 
 first_by : (image : Image) (ws rest : List Waiting) (b : Bool) → (if b then first_movable ws else Some image) ≡ None → (first_movable ws ≡ None → first_movable (ws ++ rest) ≡ first_movable rest) →
     (if b then first_movable (ws ++ rest) else Some image) ≡ first_movable rest
@@ -87,3 +88,65 @@ later_by image ws false none = absurd (cc none)
 pub later-passed : (w : Waiting) (ws : List Waiting) → first_movable (w ∷ ws) ≡ None → first_movable ws ≡ None
 later-passed (waiting.Courier c) ws none = none
 later-passed (waiting.Image image) ws none = later_by image ws (is_stopped_phase image.phase) none
+
+-- ---- how many can be moved
+movable-cons-by : (w : Waiting) (ws : List Waiting) (b : Bool) → length (cond b (w ∷ filter is_movable ws) (filter is_movable ws)) ≡ length (cond b (w ∷ []) []) + movable_count ws
+movable-cons-by w ws true = omega arith
+movable-cons-by w ws false = omega arith
+
+pub movable-cons : (w : Waiting) (ws : List Waiting) → movable_count (w ∷ ws) ≡ movable_count (w ∷ []) + movable_count ws
+movable-cons w ws = movable-cons-by w ws (is_movable w)
+
+pub movable-append : (xs ys : List Waiting) → movable_count (xs ++ ys) ≡ movable_count xs + movable_count ys
+movable-append [] ys = omega arith
+movable-append (x ∷ xs) ys =
+    let a = movable-cons x (xs ++ ys) in
+    let b = movable-cons x xs in
+    let c = movable-append xs ys in
+    omega arith
+
+-- who cannot be moved counts nothing in any place
+pub movable-lost : (xs ys : List Waiting) (w : Waiting) → movable_count (w ∷ []) ≡ 0 → movable_count (xs ++ ys) ≡ movable_count (xs ++ w ∷ ys)
+movable-lost xs ys w none =
+    let a = movable-append xs (w ∷ ys) in
+    let b = movable-cons w ys in
+    let c = movable-append xs ys in
+    omega arith
+
+stopped-counts-by : (w : Waiting) (b : Bool) → b ≡ true → length (cond (not b) (w ∷ []) []) ≡ 0
+stopped-counts-by w b e = rw e
+
+pub stopped-counts : (image : Image) → is_stopped_phase image.phase ≡ true → movable_count (waiting.Image image ∷ []) ≡ 0
+stopped-counts image e = stopped-counts-by (waiting.Image image) (is_stopped_phase image.phase) e
+
+-- the first that can be moved leaves
+pub movable-leaves : (ws : List Waiting) (moved : Image) → first_movable ws ≡ Some moved → movable_count ws ≡ suc (movable_count (without_movable ws))
+movable-leaves [] moved first = absurd (cc first)
+movable-leaves (waiting.Courier c ∷ ws) moved first = movable-leaves ws moved first
+movable-leaves (waiting.Image image ∷ ws) moved first = go (is_stopped_phase image.phase) refl first (movable-leaves ws moved)
+  where
+    stays : is_stopped_phase image.phase ≡ true → movable_count ws ≡ suc (movable_count (without_movable ws)) → movable_count ws ≡ suc (movable_count (waiting.Image image ∷ without_movable ws))
+    stays e later =
+        let a = movable-cons (waiting.Image image) (without_movable ws) in
+        let b = stopped-counts image e in
+        omega arith
+
+    go : (b : Bool) → is_stopped_phase image.phase ≡ b → (if b then first_movable ws else Some image) ≡ Some moved → (first_movable ws ≡ Some moved → movable_count ws ≡ suc (movable_count (without_movable ws))) →
+        length (cond (not b) (waiting.Image image ∷ filter is_movable ws) (filter is_movable ws)) ≡ suc (movable_count (if b then waiting.Image image ∷ without_movable ws else ws))
+    go true e first later = stays e (later first)
+    go false e first later = refl
+
+pub movable-less : (old new : List Waiting) (o : Option Image) (n : ℕ) → o ≡ first_movable old → new ≡ without_movable old → is_some o ≡ true → n ≡ movable_count old → n - 1 ≡ movable_count new
+movable-less old new None n first rest some count = absurd (cc some)
+movable-less old new (Some moved) n first rest some count =
+    let a = movable-leaves old moved (sym first) in
+    let b : movable_count new ≡ movable_count (without_movable old) = ap movable_count rest in
+    omega arith
+
+-- one joins the end
+pub movable-more : (passed others : List Waiting) (w : Waiting) (n : ℕ) → n ≡ movable_count (passed ++ others) → n + movable_count (w ∷ []) ≡ movable_count (passed ++ (others ++ w ∷ []))
+movable-more passed others w n count =
+    let a = movable-append passed others in
+    let b = movable-append passed (others ++ w ∷ []) in
+    let c = movable-append others (w ∷ []) in
+    omega arith

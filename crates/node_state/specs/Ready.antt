@@ -1,5 +1,5 @@
 -- who stands in the ready queue
-use Rattle.std.specs.Prelude.{ℕ, Bool, true, false, ◌==◌, List, [], ◌∷◌, filter, length, Option, None, Some, if◌then◌else◌}
+use Rattle.std.specs.Prelude.{ℕ, Bool, true, false, not, ◌==◌, List, [], ◌∷◌, filter, length, Option, None, Some, if◌then◌else◌}
 use Rattle.std.specs.List.{list_any}
 use Rattle.unix_names.specs.declared.Pid.{Pid}
 use Rattle.unix_calls.specs.declared.Phase.{Phase}
@@ -31,3 +31,12 @@ abbrev pub without_movable : List Waiting → List Waiting
 without_movable [] = []
 without_movable (waiting.Courier c ∷ queue) = waiting.Courier c ∷ without_movable queue
 without_movable (waiting.Image image ∷ queue) = if is_stopped_phase image.phase then waiting.Image image ∷ without_movable queue else queue
+
+-- whether a push could move who stands there: an image that is not stopped
+abbrev pub is_movable : Waiting → Bool
+is_movable (waiting.Image image) = not (is_stopped_phase image.phase)
+is_movable (waiting.Courier c) = false
+
+-- how many images stand in the queue that are not stopped
+abbrev pub movable_count : List Waiting → ℕ
+movable_count queue = length (filter is_movable queue)

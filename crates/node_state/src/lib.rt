@@ -7,8 +7,6 @@ mod places;
 mod ready;
 mod returns;
 mod state;
-#[cfg(test)]
-mod tests;
 
 pub use ready::{ReadyQueue, Waiting};
 pub use state::{Sent, State};

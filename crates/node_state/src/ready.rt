@@ -1,6 +1,6 @@
 // Those who wait for their turn.
-ghost use Rattle.std.specs.Prelude.{◌≡◌, ◌↔◌, [], ◌∷◌, ◌++◌, None, IsTrue, IfSome, IfNone, IfOk, OnOk, OnErr};
-ghost use Rattle.node_state.specs.Ready.{is_stopped_phase, has_image, first_movable, without_movable};
+ghost use Rattle.std.specs.Prelude.{◌≡◌, ◌↔◌, ℕ, ◌+◌, [], ◌∷◌, ◌++◌, None, IsTrue, IfSome, IfNone, IfOk, OnOk, OnErr};
+ghost use Rattle.node_state.specs.Ready.{is_stopped_phase, has_image, first_movable, without_movable, is_movable, movable_count};
 ghost use Rattle.ordered_table.specs.Entries.{value_at};
 ghost use Rattle.node_state.specs.Counts.{IsCounted, count_at, counted, uncounted, one_less};
 
@@ -30,6 +30,8 @@ pub struct ReadyQueue {
     others: Queue<Waiting>,
     /// How many images of each process stand here.
     counts: Table<u64>,
+    /// How many images stand here that are not stopped.
+    movable: usize,
 }
 
 impl Model for ReadyQueue {
@@ -38,18 +40,49 @@ impl Model for ReadyQueue {
 
     ghost Value = { List TheWaiting };
 
-    ghost use Rattle.node_state.specs.Ready.{first_movable};
+    ghost use Rattle.node_state.specs.Ready.{first_movable, movable_count};
     ghost use Rattle.node_state.specs.Counts.{IsCounted};
 
     ghost view = { λ queue. queue.passed ++ queue.others };
 
-    ghost invariant = { λ queue. (first_movable queue.passed ≡ None) × IsCounted queue.counts (queue.passed ++ queue.others) };
+    ghost invariant = { λ queue. (first_movable queue.passed ≡ None) × IsCounted queue.counts (queue.passed ++ queue.others) × (queue.movable ≡ movable_count (queue.passed ++ queue.others)) };
 }
 
 fn is_stopped(phase: Phase) -> bool
     ensures { result ≡ is_stopped_phase phase }
 {
     matches!(phase, Phase::Stopped)
+}
+
+fn is_movable(waiting: &Waiting) -> bool
+    ensures { result ≡ is_movable waiting.now }
+{
+    match waiting {
+        Waiting::Image(image) => !is_stopped(image.phase),
+        Waiting::Courier(_) => false,
+    }
+}
+
+/// How many can be moved once one more stands in the queue.
+fn with_one_more(movable: usize, waiting: &Waiting) -> Result<usize, NoMemory>
+    ensures { IfOk result (λ more. more ≡ movable + movable_count (waiting.now ∷ [])) }
+{
+    if is_movable(waiting) {
+        movable.checked_add(1).ok_or(NoMemory)
+    } else {
+        Ok(movable)
+    }
+}
+
+/// How many can be moved once one has left the queue.
+fn with_one_less(movable: usize, waiting: &Waiting) -> usize
+    ensures { (rest : ℕ) → movable ≡ movable_count (waiting.now ∷ []) + rest → result ≡ rest }
+{
+    if is_movable(waiting) {
+        movable.saturating_sub(1)
+    } else {
+        movable
+    }
 }
 
 /// How many images of a process were counted.
@@ -127,6 +160,7 @@ fn take_movable(
     ensures first { IfOk result (λ image. image ≡ first_movable (passed.old ++ others.old)) }
     ensures rest { OnOk result (passed.new ++ others.new ≡ without_movable (passed.old ++ others.old)) }
     ensures nobody { IfOk result (λ image. image ≡ None → passed.new ++ others.new ≡ passed.old ++ others.old) }
+    ensures movable { OnErr result (movable_count (passed.new ++ others.new) ≡ movable_count (passed.old ++ others.old)) }
 {
     while let Some(waiting) = others.pop() {
         match waiting {
@@ -166,6 +200,7 @@ impl ReadyQueue {
             passed: Queue::new(alloc),
             others: Queue::new(alloc),
             counts: Table::new(alloc),
+            movable: 0,
         }
     }
 
@@ -183,13 +218,23 @@ impl ReadyQueue {
         count_at(&self.counts, pid) > 0
     }
 
+    /// How many images stand in the queue that are not stopped. It takes no memory, and no walk.
+    pub fn movable(&self) -> usize
+        ensures { result ≡ movable_count self.now }
+    {
+        self.movable
+    }
+
     /// Joins the end.
     pub fn push(&mut self, waiting: Waiting) -> Result<(), NoMemory>
         ensures ok { OnOk result (self.new ≡ self.old ++ waiting ∷ []) }
         ensures err { OnErr result (self.new ≡ self.old) }
     {
+        let movable = with_one_more(self.movable, &waiting)?;
         count(&mut self.counts, &waiting)?;
-        join(&mut self.others, &mut self.counts, waiting)
+        join(&mut self.others, &mut self.counts, waiting)?;
+        self.movable = movable;
+        Ok(())
     }
 
     /// The first leaves.
@@ -200,6 +245,7 @@ impl ReadyQueue {
     {
         let waiting = pop_first(&mut self.passed, &mut self.others)?;
         leave(&mut self.counts, &waiting);
+        self.movable = with_one_less(self.movable, &waiting);
         Some(waiting)
     }
 
@@ -209,6 +255,10 @@ impl ReadyQueue {
         ensures rest { OnOk result (self.new ≡ without_movable self.old) }
         ensures nobody { IfOk result (λ image. image ≡ None → self.new ≡ self.old) }
     {
-        take_movable(&mut self.passed, &mut self.others, &mut self.counts)
+        let image = take_movable(&mut self.passed, &mut self.others, &mut self.counts)?;
+        if image.is_some() {
+            self.movable = self.movable.saturating_sub(1);
+        }
+        Ok(image)
     }
 }

@@ -1,5 +1,5 @@
-use crate::{ReadyQueue, State, Waiting};
 use courier_core::Message;
+use node_state::{ReadyQueue, State, Waiting};
 use ordered_table::SparseTable;
 use proc_image::Image;
 use record_table::Slots;
@@ -52,13 +52,16 @@ fn a_push_takes_the_first_that_is_not_stopped(rt: HostRuntime) -> Result<(), Fai
     queue.push(Waiting::Image(image(rt.alloc(), 2, Phase::Stopped)))?;
     queue.push(Waiting::Image(image(rt.alloc(), 3, Phase::Ready)))?;
     queue.push(Waiting::Image(image(rt.alloc(), 4, Phase::Ready)))?;
+    assert!(rt; queue.movable() == 2);
     let moved = queue.take_movable()?;
+    assert!(rt; queue.movable() == 1);
     assert_eq!(rt; moved.map(|image| image.pid), Some(Pid(3)));
     assert!(rt; !queue.has_image(Pid(3)));
     assert!(rt; queue.has_image(Pid(2)));
     assert_eq!(rt; next_pid(&mut queue), Some(Pid(2)));
+    assert!(rt; queue.movable() == 1);
     assert_eq!(rt; next_pid(&mut queue), Some(Pid(4)));
-    assert!(rt; queue.is_empty());
+    assert!(rt; queue.is_empty() && queue.movable() == 0);
     Ok(())
 }
 

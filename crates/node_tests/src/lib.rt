@@ -1,0 +1,5 @@
+//! The tests of what a node holds between two turns.
+#![tactic(auto)]
+
+#[cfg(test)]
+mod states;
