@@ -1,11 +1,10 @@
 -- a job that is done at one node alone is answered as the law has it
-use Rattle.std.proofs.Common.{◌≡◌, ◌≢◌, ◌==◌, ℕ, Bool, true, false, List, refl, sym, ap, ◌∙◌, subst, Option, None, Some}
+use Rattle.std.proofs.Common.{◌≡◌, ◌==◌, ℕ, Bool, true, false, List, refl, ap, ◌∙◌, None, Some}
 use Rattle.std.specs.Prelude.{is_some, if◌then◌else◌}
 use Rattle.std.proofs.lemmas.Bool.{eqb-true, eqb-false}
 use Rattle.unix_names.specs.declared.Pid.{Pid}
 use Rattle.unix_names.specs.declared.NodeId.{NodeId}
 use Rattle.unix_calls.specs.declared.Job.{Job}
-use Rattle.unix_calls.specs.declared.Job.TheVariants.{Look}
 use Rattle.signal_state.specs.Sig.{deliverable}
 use Rattle.signal_state.specs.declared.Own.{Own}
 use Rattle.vproc_record.specs.declared.Vproc.{Vproc}
@@ -27,15 +26,7 @@ use Rattle.decide_law.proofs.Shell.{settling}
 use Rattle.decide_law.proofs.ReplyStep.{able}
 use Rattle.decide_law.proofs.Answers.{inside}
 
--- a process whose job is another than to look is not stopped
-pub not_stopped : (nodes : ℕ) (rows : List Row) (p : Pid) (job : Job) (own : Own) (bag : Bag) (site : Site) → (a : Asks nodes rows p job own bag site) → job ≢ Look → is_stopped a.row.life ≡ false
-not_stopped nodes rows p job own bag site a works = go (is_stopped a.row.life) refl
-  where
-    go : (b : Bool) → is_stopped a.row.life ≡ b → b ≡ false
-    go true e = absurd (works (a.looks e))
-    go false e = refl
-
--- and where nothing is to happen first, it can call
+-- a process that is not stopped can call, where nothing is to happen first
 pub can_work : (rows : List Row) (p : Pid) (own : Own) (bag : Bag) (r : Row) (v : Vproc) (g : Group) → Based rows p own bag r v g → is_stopped r.life ≡ false → deliverable (folded own v g).sig ≡ 0 → can_call r ≡ true
 can_work rows p own bag r v g b alive clear = able rows p (folded own v g).sig (settled_in p v.group bag) r (emptied v) (settled g p) (settling rows p own bag r v g b) alive clear
 

@@ -13,14 +13,14 @@ use Rattle.record_bag.specs.declared.vector.Site.{Site}
 use Rattle.decide_law.specs.Places.{named_or}
 use Rattle.decide_law.specs.Effects.{folded}
 use Rattle.decide_law.specs.Parts.{IsLawfulFor}
-use Rattle.decide_law.proofs.Answers.{on_base_right}
-use Rattle.decide_law.proofs.Arrivals.{not_stopped, can_work, done_at_answers}
+use Rattle.decide_law.proofs.Answers.{on_base_right, runs_on, not_stopped}
+use Rattle.decide_law.proofs.Arrivals.{can_work, done_at_answers}
 use Rattle.migrate_core.specs.Moves.{arrival, migrate_answer, decide_migrate, push_answer, decide_push, MovesAnswered}
 use Rattle.migrate_core.proofs.Ride.{migrate_law, push_law}
 
 migrate_answered : (p : Pid) (at : Option NodeId) (own : Own) (bag : Bag) (site : Site) → IsLawfulFor p (Ask Migrate at) own bag site (decide_migrate at site p own bag).bag (decide_migrate at site p own bag).outcome
 migrate_answered p at own bag site nodes rows a clear =
-    let alive = not_stopped nodes rows p (Ask Migrate at) own bag site a (λ e. cc) in
+    let alive = runs_on nodes rows p Migrate at own bag site a in
     on_base_right nodes rows p (Ask Migrate at) own bag site a (migrate_answer at site own bag p) (λ v g b.
     let can = can_work rows p own bag a.row v g b alive (clear v g b.vproc b.group) in
     done_at_answers nodes rows p (Ask Migrate at) own bag site a v g (named_or at v.loc) (arrival (Called p Migrate Fine) (folded own v g).sig p site) b can refl refl

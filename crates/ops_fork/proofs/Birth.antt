@@ -9,11 +9,9 @@ use Rattle.list_laws.proofs.Filters.{filter-none}
 use Rattle.list_laws.proofs.Elements.{filter-same}
 use Rattle.list_laws.proofs.Finding.{at-append, same_number}
 use Rattle.unix_names.specs.declared.Pid.{Pid}
-use Rattle.unix_names.specs.declared.Life.TheVariants.{Runs}
 use Rattle.unix_calls.specs.declared.Call.TheVariants.{Fork}
 use Rattle.unix_calls.specs.declared.Reply.TheVariants.{Number}
 use Rattle.unix_calls.specs.declared.Entry.TheVariants.{Called}
-use Rattle.unix_calls.specs.declared.Phase.TheVariants as phase
 use Rattle.signal_state.specs.Signals.{Signals}
 use Rattle.vproc_record.specs.declared.Vproc.{Vproc}
 use Rattle.group_record.specs.declared.Group.{Group}
@@ -30,7 +28,7 @@ use Rattle.kernel_rules.specs.Fork.{newborn}
 use Rattle.kernel_laws.specs.Effects.{IsUnused}
 use Rattle.decide_law.specs.Agrees.{children_of, IsRecordOf, VprocAgrees, IsGroupOf}
 use Rattle.decide_law.specs.Law.{Settled, BirthIs}
-use Rattle.decide_law.specs.Effects.{only, Effect, written}
+use Rattle.decide_law.specs.Effects.{only, written}
 use Rattle.decide_law.proofs.Records.{number, distinct, row_pid}
 use Rattle.decide_law.proofs.Shell.{own_record, group_is}
 use Rattle.decide_law.proofs.Changes.{group_changed, only_at_same}

@@ -1,10 +1,7 @@
 -- the whole law of fork
-use Rattle.std.proofs.Common.{◌≡◌, ◌==◌, ◌&&◌, ◌||◌, ◌++◌, ℕ, Bool, true, false, not, List, [], ◌∷◌, length, refl, sym, ap, ◌∙◌, subst, Option, None, Some}
+use Rattle.std.proofs.Common.{◌≡◌, ℕ, Bool, true, false, List, length, refl, sym, ap, ◌∙◌, subst, Option, None, Some}
 use Rattle.std.specs.Prelude.{nat_le, if◌then◌else◌}
-use Rattle.std.specs.List.{list_any}
-use Rattle.std.proofs.lemmas.Bool.{ne_eqb, le-leb}
 use Rattle.std.proofs.lemmas.List.{length-map}
-use Rattle.list_laws.proofs.Elements.{any_none_found}
 use Rattle.unix_names.specs.declared.Pid.{Pid}
 use Rattle.unix_names.specs.declared.NodeId.{NodeId}
 use Rattle.unix_names.specs.declared.Errno.{Errno}
@@ -23,20 +20,19 @@ use Rattle.record_bag.specs.declared.bag.Bag.{Bag}
 use Rattle.record_bag.specs.declared.vector.Site.{Site}
 use Rattle.record_bag.specs.Decisions.{Answered}
 use Rattle.process_table.specs.declared.Row.{Row}
-use Rattle.process_table.specs.Rows.{row_of, child_count, children, is_stopped, AreDistinct}
+use Rattle.process_table.specs.Rows.{child_count, children, is_stopped}
 use Rattle.kernel_rules.specs.Events.{can_call}
-use Rattle.kernel_rules.specs.Fork.{uses_number, is_fresh, newborn}
+use Rattle.kernel_rules.specs.Fork.{is_fresh}
 use Rattle.kernel_rules.specs.Replies.{is_first}
 use Rattle.kernel_rules.specs.Calls.{refusal}
 use Rattle.kernel_model.specs.Step.{after_at, sent_at}
-use Rattle.kernel_laws.specs.Effects.{IsUnused}
+use Rattle.kernel_laws.proofs.Forks.{unused_fresh}
 use Rattle.decide_law.specs.Agrees.{IsRecordOf}
 use Rattle.decide_law.specs.Law.{Asks, Based, Settled, next, IsStep}
 use Rattle.decide_law.specs.Places.{destination, named_or}
 use Rattle.decide_law.specs.Vector.{IsAnswer}
 use Rattle.decide_law.specs.Effects.{Effect, folded, emptied, settled_in, decided_by, left_by, replied, done_by}
 use Rattle.decide_law.specs.Arrivals.{done_at}
-use Rattle.decide_law.proofs.Records.{number, distinct}
 use Rattle.decide_law.proofs.Shell.{own_record, settling, shell}
 use Rattle.decide_law.proofs.Quiet.{legal_call}
 use Rattle.decide_law.proofs.ReplyStep.{able, IsReply, reply_step}
@@ -67,20 +63,6 @@ full_reply rows p sig bag r v g a alive clear full = record {
   nobody = λ before left. refl;
   born = tt;
 }
-
--- ---- the child's pid
--- a number that is no row's is fresh to the rules
-unused_fresh : (rows : List Row) (n : ℕ) → AreDistinct rows → IsUnused rows n → is_fresh rows n ≡ true
-unused_fresh rows n d u =
-    ap (λ b. b && (not (n == 999999) && not (list_any (uses_number n) rows))) (le-leb 2 n u.least)
-    ∙ ap (λ b. not b && not (list_any (uses_number n) rows)) (ne_eqb n 999999 u.somebody)
-    ∙ ap not (any_none_found number (uses_number n) rows (distinct rows d) none)
-  where
-    none : (c : Row) → row_of rows c.pid ≡ Some c → uses_number n c ≡ false
-    none c here =
-        ap (λ b. b || ((c.group.0 == n) || (c.session.0 == n))) (ne_eqb c.pid.0 n (u.no_pid c here))
-        ∙ ap (λ b. b || (c.session.0 == n)) (ne_eqb c.group.0 n (u.no_group c here))
-        ∙ ne_eqb c.session.0 n (u.no_session c here)
 
 -- ---- at the child's node
 fork_done : (nodes : ℕ) (rows : List Row) (p : Pid) (at : Option NodeId) (own : Own) (bag : Bag) (site : Site) (a : Asks nodes rows p (Ask Fork at) own bag site) (v : Vproc) (g : Group) → Based rows p own bag a.row v g → is_stopped a.row.life ≡ false → can_call a.row ≡ true → is_full v ≡ false → destination (Ask Fork at) v.loc ≡ Some site.node →

@@ -1,5 +1,5 @@
 -- fork, decided on records (POSIX.1-2017, XSH fork)
-use Rattle.std.specs.Prelude.{ℕ, Bool, false, ◌++◌, nat_le, List, [], ◌∷◌, length, Option, None, Some, if◌then◌else◌}
+use Rattle.std.specs.Prelude.{ℕ, Bool, false, ◌++◌, nat_le, [], ◌∷◌, length, Option, None, Some, if◌then◌else◌}
 use Rattle.std.specs.Option.{option_map}
 use Rattle.unix_names.specs.declared.Pid.{Pid}
 use Rattle.unix_names.specs.declared.NodeId.{NodeId}
@@ -38,9 +38,11 @@ born_record v site = record {
   backlog = [];
 }
 
+-- the parent's record with a child more, the last in its list
 abbrev pub with_newborn : Pid → Vproc → Vproc
 with_newborn q v = record v { children = v.children ++ q ∷ [] }
 
+-- the group with a member more, of this user
 abbrev pub joins : Pid → ℕ → Group → Group
 joins q uid g = joined g q uid
 
