@@ -1,5 +1,5 @@
 -- from a question to what its decision starts from, and from a decision to an answer
-use Rattle.std.proofs.Common.{◌≡◌, ◌==◌, inl, inr, ◌&&◌, ◌||◌, ◌<◌, ℕ, Bool, true, false, cond, not, List, [], ◌∷◌, length, refl, sym, ap, ◌∙◌, subst, arith, Option, None, Some, All}
+use Rattle.std.proofs.Common.{◌≡◌, ◌≢◌, ◌==◌, inl, inr, ◌&&◌, ◌||◌, ◌<◌, ℕ, Bool, true, false, cond, not, List, [], ◌∷◌, length, refl, sym, ap, ◌∙◌, subst, arith, Option, None, Some, All}
 use Rattle.std.specs.Option.{option_map}
 use Rattle.list_laws.proofs.Filters.{some_same}
 use Rattle.std.proofs.lemmas.Bool.{eqb-true, eq-eqb}
@@ -80,13 +80,17 @@ module _ (nodes : ℕ) (rows : List Row) (p : Pid) (job : Job) (own : Own) (bag 
       IsAnswer nodes rows p job site bag (on_base answer p bag).bag (on_base answer p bag).outcome
   on_base_right answer right = on_vproc_right answer right (vproc_at bag p) refl
 
--- a process that calls is not stopped
-pub runs_on : (nodes : ℕ) (rows : List Row) (p : Pid) (call : Call) (at : Option NodeId) (own : Own) (bag : Bag) (site : Site) → (a : Asks nodes rows p (Ask call at) own bag site) → is_stopped a.row.life ≡ false
-runs_on nodes rows p call at own bag site a = go (is_stopped a.row.life) refl
+-- a process whose job is another than to look is not stopped
+pub not_stopped : (nodes : ℕ) (rows : List Row) (p : Pid) (job : Job) (own : Own) (bag : Bag) (site : Site) → (a : Asks nodes rows p job own bag site) → job ≢ Look → is_stopped a.row.life ≡ false
+not_stopped nodes rows p job own bag site a works = go (is_stopped a.row.life) refl
   where
     go : (b : Bool) → is_stopped a.row.life ≡ b → b ≡ false
-    go true e = let f : Ask call at ≡ Look = a.looks e in cc
+    go true e = absurd (works (a.looks e))
     go false e = refl
+
+-- a process that calls is not stopped
+pub runs_on : (nodes : ℕ) (rows : List Row) (p : Pid) (call : Call) (at : Option NodeId) (own : Own) (bag : Bag) (site : Site) → (a : Asks nodes rows p (Ask call at) own bag site) → is_stopped a.row.life ≡ false
+runs_on nodes rows p call at own bag site a = not_stopped nodes rows p (Ask call at) own bag site a (λ e. cc)
 
 -- ---- needs
 pub same_name : (n m : Name) → is_name n m ≡ true → m ≡ n

@@ -27,3 +27,4 @@ pub mod AppendStep
 pub mod SettledFootprints
 pub mod Needed
 pub mod FirstEvent
+pub mod Arrivals

@@ -13,3 +13,4 @@ pub mod Base
 pub mod Answer
 pub mod Parts
 pub mod MethodNeeds
+pub mod Arrivals

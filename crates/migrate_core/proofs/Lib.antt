@@ -1,0 +1,2 @@
+pub mod Ride
+pub mod Whole

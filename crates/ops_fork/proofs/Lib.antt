@@ -1,0 +1,3 @@
+pub mod Birth
+pub mod Step
+pub mod Whole

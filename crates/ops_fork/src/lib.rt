@@ -1,0 +1,9 @@
+//! fork, decided on records.
+#![tactic(auto)]
+
+ghost use Rattle.ops_fork.specs.Decide.{ForkAnswered};
+
+/// Each fork is answered by a step of the one kernel, by the way to the child's node, or by asking for what lacks.
+pub fn fork_is_lawful()
+    ensures { ForkAnswered }
+{}
