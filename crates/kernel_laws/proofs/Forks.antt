@@ -3,16 +3,16 @@ use Rattle.std.proofs.Common.{◌≡◌, ◌≢◌, ◌==◌, ◌&&◌, ◌||◌
 use Rattle.std.specs.Prelude.{filter, nat_le}
 use Rattle.std.specs.List.{list_any}
 use Rattle.std.specs.Option.{option_or}
-use Rattle.std.proofs.lemmas.Bool.{eqb-true, eq-eqb, ne_eqb, and_parts, or_parts, leb-true, le-leb}
+use Rattle.std.proofs.lemmas.Bool.{eqb-true, eq-eqb, and_parts, or_parts, leb-true}
 use Rattle.unix_names.specs.declared.Pid.{Pid}
 use Rattle.unix_names.specs.States.{is_living}
 use Rattle.process_table.specs.declared.Row.{Row}
-use Rattle.process_table.specs.Rows.{pid, is_parent, row_of, child_count, AreDistinct}
+use Rattle.process_table.specs.Rows.{pid, is_parent, row_of, child_count}
 use Rattle.kernel_rules.specs.Fork.{uses_number, is_fresh, newborn}
 use Rattle.kernel_model.specs.Sound.{IsAlive, IsSoundRow, IsSound}
 use Rattle.list_laws.specs.Keyed.{one_if}
 use Rattle.list_laws.proofs.Finding.{at-append, comes-append, distinct-append}
-use Rattle.list_laws.proofs.Elements.{any_no, any_none_found}
+use Rattle.list_laws.proofs.Elements.{any_no}
 use Rattle.list_laws.proofs.Counts.{count-append}
 use Rattle.kernel_laws.specs.Effects.{IsUnused}
 use Rattle.kernel_laws.proofs.Rows.{number, distinct_from, distinct_to, row_pid, row_here}
@@ -42,19 +42,6 @@ fresh_number rows n e =
         let a = or_parts (c.pid.0 == n) ((c.group.0 == n) || (c.session.0 == n)) no in
         let b = or_parts (c.group.0 == n) (c.session.0 == n) a.1 in
         (a.0, b.0, b.1)
-
--- and a number that is no row's is fresh
-pub unused_fresh : (rows : List Row) (n : ℕ) → AreDistinct rows → IsUnused rows n → is_fresh rows n ≡ true
-unused_fresh rows n d u =
-    ap (λ b. b && (not (n == 999999) && not (list_any (uses_number n) rows))) (le-leb 2 n u.least)
-    ∙ ap (λ b. not b && not (list_any (uses_number n) rows)) (ne_eqb n 999999 u.somebody)
-    ∙ ap not (any_none_found number (uses_number n) rows (distinct_from rows d) none)
-  where
-    none : (c : Row) → row_of rows c.pid ≡ Some c → uses_number n c ≡ false
-    none c here =
-        ap (λ b. b || ((c.group.0 == n) || (c.session.0 == n))) (ne_eqb c.pid.0 n (u.no_pid c here))
-        ∙ ap (λ b. b || (c.session.0 == n)) (ne_eqb c.group.0 n (u.no_group c here))
-        ∙ ne_eqb c.session.0 n (u.no_session c here)
 
 -- no row has the number
 no_row : (rows : List Row) (n : ℕ) → IsUnused rows n → row_of rows (pid n) ≡ None

@@ -1,3 +1,4 @@
 pub mod Birth
 pub mod Step
 pub mod Whole
+pub mod Fresh
