@@ -246,17 +246,21 @@ fn two_stamped() -> [Stamped; 2] {
 }
 
 #[test]
-fn writes_and_reads_stamped_entries(rt: HostRuntime) -> Result<(), Fail> {
+fn reads_stamped_entries(rt: HostRuntime) -> Result<(), Fail> {
     let alloc = rt.alloc();
-    let written = put_history_two(alloc, &two_stamped(), true).map_err(|_| Fail::from(
-        "no memory",
-    ))?;
-    assert_eq!(rt; written.as_slice(), FORMAT_TWO);
     let read = read_history_two(alloc, FORMAT_TWO, whole(FORMAT_TWO)).map_err(|_| Fail::from(
         "bad line",
     ))?;
     let entries = read.unwrap_or(Vec::new(alloc));
     assert_eq!(rt; entries.as_slice(), two_stamped().as_slice());
+    Ok(())
+}
+
+#[test]
+fn writes_a_history_of_no_stamped_entries(rt: HostRuntime) -> Result<(), Fail> {
+    let none: [Stamped; 0] = [];
+    let written = put_history_two(rt.alloc(), &none, true).map_err(|_| Fail::from("no memory"))?;
+    assert_eq!(rt; written.as_slice(), b"format 2\nquiet\n".as_slice());
     Ok(())
 }
 
