@@ -1,0 +1,22 @@
+-- the events of this part: each with its effect, and what is owed for them
+use Rattle.std.specs.Prelude.{None}
+use Rattle.unix_calls.specs.declared.Event.{Event}
+use Rattle.unix_calls.specs.declared.Event.TheVariants.{Caught, Discarded}
+use Rattle.unix_calls.specs.declared.Phase.TheVariants as phase
+use Rattle.decide_law.specs.Effects.{quiet}
+use Rattle.ops_deliver.specs.Events.{EventEffect, IsEventAnswered}
+use Rattle.ops_deliver.specs.Taken.{take_effect}
+
+abbrev pub IsDelivered : Event → Type 0
+IsDelivered (Caught s) = Unit {0}
+IsDelivered (Discarded s) = Unit {0}
+IsDelivered _ = ⊥
+
+abbrev pub effect_of : Event → EventEffect
+effect_of (Caught s) = take_effect (Caught s) s
+effect_of (Discarded s) = take_effect (Discarded s) s
+effect_of event = λ bag sig p v. quiet None sig phase.Ready
+
+-- each of these events is answered as the law has it
+abbrev pub EventsAnswered : Type 0
+EventsAnswered = (event : Event) → IsDelivered event → IsEventAnswered event (effect_of event)
