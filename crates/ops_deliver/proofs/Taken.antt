@@ -92,7 +92,7 @@ taken_step rows p job site sig bag r v g event s a t =
     })
 
 -- ---- the two events
-may : (rows : List Row) (p : Pid) (sig : Signals) (bag : Bag) (r : Row) (v : Vproc) (g : Group) (event : Event) → Settled rows p sig bag r v g → first_event rows r ≡ Some event → may_happen rows r event ≡ true
+pub may : (rows : List Row) (p : Pid) (sig : Signals) (bag : Bag) (r : Row) (v : Vproc) (g : Group) (event : Event) → Settled rows p sig bag r v g → first_event rows r ≡ Some event → may_happen rows r event ≡ true
 may rows p sig bag r v g event a first = chosen_may_happen rows r event (a.sound.each p r a.row).signals_kept first
 
 pub caught_is_step : (s : Signal) → IsEventStep (Caught s) (take_effect (Caught s) s)

@@ -1,4 +1,4 @@
-//! Events that a signal brings, decided on records: caught and discarded ones.
+//! Events that signals bring, decided on records: one is caught or discarded, or the process stops or continues.
 #![tactic(auto)]
 
 ghost use Rattle.ops_deliver.specs.Decide.{EventsAnswered};
