@@ -8,6 +8,7 @@ use Rattle.ops_deliver.specs.Events.{EventEffect, IsEventAnswered}
 use Rattle.ops_deliver.specs.Taken.{take_effect}
 use Rattle.ops_deliver.specs.Turn.{stop_effect, continue_effect}
 
+-- a signal is caught or discarded, or stops the process, or the process continues
 abbrev pub IsDelivered : Event → Type 0
 IsDelivered (Caught s) = Unit {0}
 IsDelivered (Discarded s) = Unit {0}

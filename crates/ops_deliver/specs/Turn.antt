@@ -50,7 +50,7 @@ turned_group bag p up l w id g = record g {
 abbrev pub turned_groups : Bag → Pid → Pid → Life → WaitStatus → Pid → Option Group → Option Group
 turned_groups bag p up l w id h = option_map (turned_group bag p up l w id) h
 
--- p, with its parent, goes to this life; the parent is nudged, where it is not the system process
+-- p, whose parent is up, goes to this life; the parent is nudged, where it is not the system process
 abbrev pub turn_by : Bag → Signals → Entry → Phase → Pid → Pid → Life → WaitStatus → Effect
 turn_by bag sig e ph p up l w = record {
   entry = Some e;
