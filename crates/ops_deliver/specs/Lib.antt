@@ -1,0 +1,4 @@
+pub mod Events
+pub mod Taken
+pub mod Turn
+pub mod Decide
