@@ -7,3 +7,4 @@ pub mod Streams
 pub mod Nudges
 pub mod Whole
 pub mod Steps
+pub mod Killed

@@ -1,4 +1,4 @@
--- exit, and the end by a signal
+-- an exit with its footprint is a step
 use Rattle.std.proofs.Common.{◌≡◌, ◌==◌, ℕ, ◌%◌, Bool, true, false, List, [], refl, sym, ap, subst, Option, None, Some, inl, inr, ◌⊎◌, if◌then◌else◌}
 use Rattle.std.specs.Prelude.{is_some}
 use Rattle.std.proofs.lemmas.Bool.{eqb-true}
@@ -68,7 +68,7 @@ kin_held rows p sig bag r v g a h = record {
     there q c here (inr k) = k
 
 -- ---- the steps
-ending_step : (rows : List Row) (p : Pid) (job : Job) (site : Site) (sig : Signals) (bag : Bag) (r : Row) (v : Vproc) (g : Group) (e : Entry) (w : WaitStatus) → Settled rows p sig bag r v g →
+pub ending_step : (rows : List Row) (p : Pid) (job : Job) (site : Site) (sig : Signals) (bag : Bag) (r : Row) (v : Vproc) (g : Group) (e : Entry) (w : WaitStatus) → Settled rows p sig bag r v g →
     IsEnding rows p job r e w → EachHeld bag (end_footprint bag v) → IsStep rows (next rows (Some e)) p job site bag (decided_by (end_effect bag sig v e w)) (written (end_effect bag sig v e w) bag)
 ending_step rows p job site sig bag r v g e w a q held =
     subst (λ (now : List Row). IsStep rows now p job site bag (decided_by (end_effect bag sig v e w)) (written (end_effect bag sig v e w) bag)) (sym q.table)
