@@ -1,5 +1,5 @@
 -- the whole law of waitpid
-use Rattle.std.proofs.Common.{◌≡◌, ◌≢◌, ◌==◌, ◌&&◌, ℕ, ℤ, Bool, true, false, cond, not, List, [], ◌∷◌, refl, sym, ap, ◌∙◌, subst, Option, None, Some}
+use Rattle.std.proofs.Common.{◌≡◌, ◌≢◌, ◌==◌, ◌&&◌, ℤ, Bool, true, false, cond, not, List, [], ◌∷◌, refl, sym, ap, ◌∙◌, subst, Option, None, Some}
 use Rattle.std.specs.Prelude.{is_some, map, find, if◌then◌else◌}
 use Rattle.std.specs.List.{list_any}
 use Rattle.std.proofs.lemmas.Bool.{eqb-true, ne_eqb, eq-eqb}
@@ -24,20 +24,16 @@ use Rattle.signal_state.specs.Signals.{Signals}
 use Rattle.signal_state.specs.Sig.{deliverable}
 use Rattle.vproc_record.specs.declared.Vproc.{Vproc}
 use Rattle.group_record.specs.declared.Group.{Group}
-use Rattle.group_record.specs.Groups.{settled}
 use Rattle.record_bag.specs.declared.bag.Bag.{Bag}
 use Rattle.record_bag.specs.declared.vector.Site.{Site}
 use Rattle.process_table.specs.declared.Row.{Row}
 use Rattle.process_table.specs.Rows.{row_of, is_pid, is_parent, is_stopped, is_ended_at}
-use Rattle.kernel_rules.specs.Events.{can_call}
-use Rattle.kernel_rules.specs.Calls.{allows}
 use Rattle.kernel_rules.specs.Wait.{report_of, is_ready_match, is_match}
 use Rattle.kernel_model.specs.declared.Verdict.TheVariants.{Legal}
 use Rattle.kernel_model.specs.Sound.{IsSound}
 use Rattle.kernel_model.specs.Step.{verdict, after, after_at, sent, sent_at}
 use Rattle.process_table.specs.Changes.{reported_at}
 use Rattle.kernel_choice.specs.Choice.{reply_of, refused_or, child_reply, report_reply}
-use Rattle.kernel_choice.proofs.ReplyLaws.{chosen_allowed}
 use Rattle.decide_law.specs.Agrees.{vproc_at, IsRecordOf}
 use Rattle.std.specs.Option.{option_map}
 use Rattle.list_laws.specs.Keyed.{option_filter}
@@ -51,10 +47,10 @@ use Rattle.decide_law.proofs.ReplyStep.{chosen_legal, reply_step}
 use Rattle.decide_law.specs.Told.{is_ready, first_child}
 use Rattle.decide_law.specs.Footprints.{selected_footprint, wait_footprint, is_none, ended_group_shown}
 use Rattle.decide_law.proofs.Records.{row_own, number, distinct, pid_same, row_pid}
-use Rattle.decide_law.proofs.Held.{none_lacks, lacks_none, held_first, held_later}
+use Rattle.decide_law.proofs.Held.{lacks_none, held_first, held_later}
 use Rattle.decide_law.proofs.Plain.{KeepsPlace, row_map, children_map}
 use Rattle.decide_law.proofs.PlainStep.{stays_put, plain_step}
-use Rattle.decide_law.proofs.Shell.{own_record, settling, shell}
+use Rattle.decide_law.proofs.Shell.{own_record}
 use Rattle.ops_exit_wait.specs.Waitpid.{has_match, reported, tell, take, report, report_first, wait_effect}
 use Rattle.ops_exit_wait.proofs.Taken.{gone, stays_there}
 use Rattle.ops_exit_wait.proofs.Take.{take_law}

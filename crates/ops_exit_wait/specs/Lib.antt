@@ -1,2 +1,3 @@
+pub mod Exec
 pub mod Waitpid
 pub mod Decide

@@ -1,4 +1,4 @@
-//! Endings and waits, decided on records: waitpid.
+//! exec, exit and waitpid, decided on records.
 #![tactic(auto)]
 
 ghost use Rattle.ops_exit_wait.specs.Decide.{ExitWaitCallsAnswered};

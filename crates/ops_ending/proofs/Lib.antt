@@ -1,0 +1,10 @@
+pub mod Kin
+pub mod Turned
+pub mod Vprocs
+pub mod Groups
+pub mod Elsewhere
+pub mod Streams
+pub mod Nudges
+pub mod Whole
+pub mod Steps
+pub mod Killed
