@@ -34,7 +34,8 @@ use Rattle.decide_law.specs.Effects.{same, or_empty, regroups}
 use Rattle.decide_law.proofs.Records.{number, pid_same, row_own}
 use Rattle.decide_law.proofs.Counts.{is_near, no_system, not_own_child}
 use Rattle.decide_law.proofs.Groups.{or_empty_is, unless_empty_agrees}
-use Rattle.decide_law.proofs.Plain.{KeepsPlace, links_map, stopped_map}
+use Rattle.decide_law.proofs.Plain.{links_map, stopped_map}
+use Rattle.decide_law.proofs.AppendStep.{receiving}
 use Rattle.decide_law.proofs.Changes.{names_changed}
 use Rattle.ops_ending.specs.Ending.{goes, ended_vproc, ended_vprocs, ended_counts, is_newly_orphaned, is_newly, end_entries, left_members, left_group}
 use Rattle.ops_ending.proofs.Kin.{HoldsBoth, HoldsKin}
@@ -220,18 +221,15 @@ twice : (b : Bool) → not (not b) ≡ b
 twice true = refl
 twice false = refl
 
-receiving : (rows : List Row) (r : Row) (w : WaitStatus) → KeepsPlace (receives (sent_by_end rows r w))
-receiving rows r w = record { pid = λ x. refl; parent = λ x. refl; group = λ x. refl; session = λ x. refl; uid = λ x. refl; life = λ x. refl }
-
 -- the table after the signals, as a change of the one before them
 signals_last : (rows : List Row) (r : Row) (w : WaitStatus) → left_rows rows r w ≡ map (receives (sent_by_end rows r w)) (rows_left rows r w)
 signals_last rows r w = sym (end_is rows r w)
 
 pub links_first : (rows : List Row) (r : Row) (w : WaitStatus) (id : Pid) → links_in (left_rows rows r w) id ≡ links_in (rows_left rows r w) id
-links_first rows r w id = ap (λ (t : List Row). links_in t id) (signals_last rows r w) ∙ links_map (rows_left rows r w) (receives (sent_by_end rows r w)) id (receiving rows r w)
+links_first rows r w id = ap (λ (t : List Row). links_in t id) (signals_last rows r w) ∙ links_map (rows_left rows r w) (receives (sent_by_end rows r w)) id (receiving (sent_by_end rows r w))
 
 stopped_first : (rows : List Row) (r : Row) (w : WaitStatus) (id : Pid) → stopped_in (left_rows rows r w) id ≡ stopped_in (rows_left rows r w) id
-stopped_first rows r w id = ap (λ (t : List Row). stopped_in t id) (signals_last rows r w) ∙ stopped_map (rows_left rows r w) (receives (sent_by_end rows r w)) id (receiving rows r w)
+stopped_first rows r w id = ap (λ (t : List Row). stopped_in t id) (signals_last rows r w) ∙ stopped_map (rows_left rows r w) (receives (sent_by_end rows r w)) id (receiving (sent_by_end rows r w))
 
 -- the counts of records tell it
 newly_by : (rows now : List Row) (id : Pid) (g left : Group) → g.links ≡ links_in rows id → left.links ≡ links_in now id → left.stopped ≡ stopped_in now id → is_newly_orphaned g left ≡ kernel.is_newly_orphaned rows now id

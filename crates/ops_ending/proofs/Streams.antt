@@ -40,7 +40,7 @@ use Rattle.ops_ending.proofs.Groups.{IsEnd, gone_same, group_after, group_left, 
 use Rattle.ops_ending.proofs.Elsewhere.{links_out, both_out}
 
 -- where a member begins is within the log
-pub from_found : (n q : ℕ) (ms : List Member) → All (λ m. m.from ≤ n) ms → from_in (at member_number q ms) ≤ n
+from_found : (n q : ℕ) (ms : List Member) → All (λ m. m.from ≤ n) ms → from_in (at member_number q ms) ≤ n
 from_found n q [] a = omega arith
 from_found n q (m ∷ ms) a = go (m.pid.0 == q) (from_found n q ms (All-tail (λ m. m.from ≤ n) m ms a)) (All-head (λ m. m.from ≤ n) m ms a)
   where
@@ -49,7 +49,7 @@ from_found n q (m ∷ ms) a = go (m.pid.0 == q) (from_found n q ms (All-tail (λ
     go false rest here = rest
 
 -- the part of a log that grew, where the member's beginning stays
-pub part_grown : (p : Pid) (uid : ℕ) (g g' : Group) (new : List LogEntry) → g'.log ≡ g.log ++ new → from_of g'.members p ≡ from_of g.members p → from_of g.members p ≤ length g.log →
+part_grown : (p : Pid) (uid : ℕ) (g g' : Group) (new : List LogEntry) → g'.log ≡ g.log ++ new → from_of g'.members p ≡ from_of g.members p → from_of g.members p ≤ length g.log →
     log_part p uid g' ≡ log_part p uid g ++ map (λ e. e.signal) (filter (concerns p uid) new)
 part_grown p uid g g' new log from small = rw (from, log, drop-append-le (from_of g.members p) g.log new small, filter-append, map-append)
 
@@ -63,7 +63,7 @@ chosen p uid q true false false t e s = rw (← s) (rw e)
 chosen p uid q false true c t e s = rw (← s)
 chosen p uid q false false c t e s = rw (← s)
 
-pub flip : (a b : ℕ) → (a == b) ≡ (b == a)
+flip : (a b : ℕ) → (a == b) ≡ (b == a)
 flip a b = go (a == b) refl
   where
     go : (t : Bool) → (a == b) ≡ t → t ≡ (b == a)

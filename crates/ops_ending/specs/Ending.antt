@@ -36,35 +36,35 @@ vanishes bag v = (v.parent.0 == 1) || passes (λ d. d.ignchld) (vproc_in bag v.p
 
 -- the record goes: that of p itself, where nobody waits, and that of a child that has ended
 abbrev pub goes : Pid → Bool → Vproc → Bool
-goes p van v = ((v.pid.0 == p.0) && van) || ((v.parent.0 == p.0) && not (is_living v.life))
+goes p vanished v = ((v.pid.0 == p.0) && vanished) || ((v.parent.0 == p.0) && not (is_living v.life))
 
 -- a record that stays: that of p ends and has no children, a child goes to the system process, and the parent has a child less where nobody waits
 abbrev pub left_vproc : Pid → Bool → WaitStatus → Vproc → Vproc
-left_vproc p van w v = record v {
+left_vproc p vanished w v = record v {
   parent = if v.parent.0 == p.0 then pid 1 else v.parent;
   life = if v.pid.0 == p.0 then Ended w else v.life;
   change = if v.pid.0 == p.0 then None else v.change;
-  children = if v.pid.0 == p.0 then [] else filter (λ c. not ((c.0 == p.0) && van)) v.children;
+  children = if v.pid.0 == p.0 then [] else filter (λ c. not ((c.0 == p.0) && vanished)) v.children;
 }
 
 abbrev pub ended_vproc : Pid → Bool → WaitStatus → Pid → Option Vproc → Option Vproc
-ended_vproc p van w q h = option_map (left_vproc p van w) (option_filter (λ v. not (goes p van v)) h)
+ended_vproc p vanished w q h = option_map (left_vproc p vanished w) (option_filter (λ v. not (goes p vanished v)) h)
 
 -- the bag once the records of processes tell of the end
 abbrev pub ended_vprocs : Bag → Pid → Bool → WaitStatus → Bag
-ended_vprocs bag p van w = changed (ended_vproc p van w) same bag
+ended_vprocs bag p vanished w = changed (ended_vproc p vanished w) same bag
 
 -- ---- records of groups
 -- the counts after the end, of which p and its children alone may have changed
 abbrev pub ended_counts : Bag → WaitStatus → Pid → List Pid → Bool → Pid → Group → Group
-ended_counts bag w p kids van id g = recounted bag (ended_vprocs bag p van w) (p ∷ kids) id g
+ended_counts bag w p children vanished id g = recounted bag (ended_vprocs bag p vanished w) (p ∷ children) id g
 
 -- by its counts the group is orphaned by this end, and has a stopped member
 abbrev pub is_newly_orphaned : Group → Group → Bool
 is_newly_orphaned g later = not (g.links == 0) && ((later.links == 0) && not (later.stopped == 0))
 
 abbrev pub is_newly : Bag → WaitStatus → Pid → List Pid → Bool → Pid → Group → Bool
-is_newly bag w p kids van id g = is_newly_orphaned g (ended_counts bag w p kids van id g)
+is_newly bag w p children vanished id g = is_newly_orphaned g (ended_counts bag w p children vanished id g)
 
 abbrev pub to_all : Signal → LogEntry
 to_all s = record { signal = s; target = None; allow = All }
@@ -74,18 +74,18 @@ to_one s q = record { signal = s; target = Some q; allow = All }
 
 -- what the log of a group gets: the parent's signal, if it is a member; then a hangup and a continue, if this end leaves it orphaned
 abbrev pub end_entries : Bag → WaitStatus → Pid → Pid → List Pid → Bool → Pid → Group → List LogEntry
-end_entries bag w p up kids van id g =
-    (if passes (λ d. d.group.0 == id.0) (vproc_in bag up) then to_one Chld up ∷ [] else [])
-    ++ (if is_newly bag w p kids van id g then to_all Hup ∷ to_all Cont ∷ [] else [])
+end_entries bag w p parent children vanished id g =
+    (if passes (λ d. d.group.0 == id.0) (vproc_in bag parent) then to_one Chld parent ∷ [] else [])
+    ++ (if is_newly bag w p children vanished id g then to_all Hup ∷ to_all Cont ∷ [] else [])
 
 -- the members whose records stay
 abbrev pub left_members : Bag → Pid → Bool → Group → List Member
-left_members bag p van g = filter (λ m. not (passes (goes p van) (vproc_in bag m.pid))) g.members
+left_members bag p vanished g = filter (λ m. not (passes (goes p vanished) (vproc_in bag m.pid))) g.members
 
 abbrev pub left_group : Bag → WaitStatus → Pid → Pid → List Pid → Bool → Pid → Group → Group
-left_group bag w p up kids van id g = record (ended_counts bag w p kids van id g) {
-  members = left_members bag p van g;
-  log = g.log ++ end_entries bag w p up kids van id g;
+left_group bag w p parent children vanished id g = record (ended_counts bag w p children vanished id g) {
+  members = left_members bag p vanished g;
+  log = g.log ++ end_entries bag w p parent children vanished id g;
 }
 
 -- ---- nudges
@@ -94,30 +94,30 @@ abbrev pub passes_group : (Group → Bool) → Option Group → Bool
 passes_group test None = false
 passes_group test (Some g) = test g
 
--- by its record this end leaves the group orphaned
+-- by what is held under its id, this end leaves the group orphaned with a stopped member
 abbrev pub leaves_orphaned : Bag → WaitStatus → Pid → List Pid → Bool → Pid → Bool
-leaves_orphaned bag w p kids van id = passes_group (is_newly bag w p kids van id) (group_in bag id)
+leaves_orphaned bag w p children vanished id = passes_group (is_newly bag w p children vanished id) (group_in bag id)
 
 -- the members but p of a group that this end leaves orphaned
 abbrev pub nudged_in : Bag → WaitStatus → Pid → List Pid → Bool → Pid → Option Group → List Pid
-nudged_in bag w p kids van id None = []
-nudged_in bag w p kids van id (Some g) = if leaves_orphaned bag w p kids van id then others_of p (left_members bag p van g) else []
+nudged_in bag w p children vanished id None = []
+nudged_in bag w p children vanished id (Some g) = if leaves_orphaned bag w p children vanished id then others_of p (left_members bag p vanished g) else []
 
 -- the parent, where it is not the system process; then those members, by group and in the order of the list
 abbrev pub end_nudges : Bag → WaitStatus → Pid → Pid → List Pid → Bool → List Pid
-end_nudges bag w p up kids van = (if up.0 == 1 then [] else up ∷ []) ++ flat_map (λ (h : Held (Option Group)). nudged_in bag w p kids van h.pid h.value) bag.groups
+end_nudges bag w p parent children vanished = (if parent.0 == 1 then [] else parent ∷ []) ++ flat_map (λ (h : Held (Option Group)). nudged_in bag w p children vanished h.pid h.value) bag.groups
 
 -- ---- the effect
 -- the end of p, with its parent, its children, its session, and whether nobody waits
 abbrev pub end_by : Bag → Signals → Entry → WaitStatus → Pid → Pid → List Pid → Bool → Pid → Effect
-end_by bag sig e w p up kids van session = record {
+end_by bag sig e w p parent children vanished session = record {
   entry = Some e;
   sig = sig;
   phase = phase.Gone;
   born = None;
-  nudges = end_nudges bag w p up kids van;
-  vprocs = ended_vproc p van w;
-  groups = regroups session (left_group bag w p up kids van);
+  nudges = end_nudges bag w p parent children vanished;
+  vprocs = ended_vproc p vanished w;
+  groups = regroups session (left_group bag w p parent children vanished);
 }
 
 -- the end of the caller v with this status
