@@ -3,6 +3,7 @@ pub mod Wakes
 pub mod Move
 pub mod Refusals
 pub mod Whole
+pub mod Setsid
 pub mod LookSteps
 pub mod LookCode
 pub mod Steps

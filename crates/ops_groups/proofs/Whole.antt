@@ -1,12 +1,13 @@
 -- setpgid is a step of the one kernel
 use Rattle.std.proofs.Common.{◌++◌, ◌≡◌, ◌==◌, ◌&&◌, ◌||◌, ℕ, ℤ, pos, negsuc, Bool, true, false, cond, not, List, [], ◌∷◌, refl, sym, ap, ◌∙◌, subst, Option, None, Some, ◌⊎◌, inl, inr}
+use Rattle.std.specs.Option.{option_map}
 use Rattle.std.specs.Prelude.{is_some, map, if◌then◌else◌}
 use Rattle.std.proofs.lemmas.Bool.{eqb-true, eqb-false}
 use Rattle.list_laws.proofs.Filters.{some_same, map-id}
 use Rattle.list_laws.proofs.Elements.{map-same}
 use Rattle.unix_names.specs.declared.Pid.{Pid}
 use Rattle.unix_names.specs.declared.NodeId.{NodeId}
-use Rattle.unix_names.specs.declared.Name.TheVariants.{V}
+use Rattle.unix_names.specs.declared.Name.TheVariants.{V, G}
 use Rattle.unix_names.specs.declared.Errno.{Errno}
 use Rattle.unix_names.specs.declared.Errno.TheVariants.{EPERM, ESRCH}
 use Rattle.unix_names.specs.States.{is_living}
@@ -34,11 +35,11 @@ use Rattle.kernel_rules.specs.Setpgid.{after_setpgid}
 use Rattle.process_table.specs.Changes.{regrouped_at}
 use Rattle.kernel_choice.specs.Choice.{refused_or}
 use Rattle.kernel_choice.proofs.ReplyLaws.{chosen_allowed}
-use Rattle.decide_law.specs.Agrees.{vproc_at, group_at, IsRecordOf}
+use Rattle.decide_law.specs.Agrees.{vproc_at, group_at, IsRecordOf, VprocAgrees, Agrees}
 use Rattle.decide_law.specs.Law.{Settled, next, IsStep, IsNoBirth}
 use Rattle.decide_law.specs.Effects.{Effect, decided_by, written, replied, unless_refused}
 use Rattle.decide_law.specs.Told.{target_pid, wanted_group, target_in, has_child, is_session_group, early_refusal}
-use Rattle.decide_law.specs.Footprints.{setpgid_footprint, regroup_footprint, move_footprint, move_footprint_of, with_living_group, living_children_footprint, parent_name}
+use Rattle.decide_law.specs.Footprints.{setpgid_footprint, regroup_footprint, move_footprint, move_footprint_of, with_living_group, living_group_shown, living_children_footprint, parent_name}
 use Rattle.decide_law.proofs.Records.{number, distinct, pid_same, row_pid, row_own}
 use Rattle.decide_law.proofs.Counts.{no_system}
 use Rattle.decide_law.proofs.Held.{none_lacks, held_first, held_later, held_flat}
@@ -46,15 +47,16 @@ use Rattle.decide_law.specs.Parts.{EachHeld, IsCallStep}
 use Rattle.decide_law.proofs.Quiet.{legal_call}
 use Rattle.decide_law.proofs.Shell.{own_record}
 use Rattle.decide_law.proofs.Told.{child_listed, has_row, group_of_row}
-use Rattle.ops_groups.specs.Setpgid.{setpgid_entry, group_refusal, first_of, refusal_by, setpgid_refusal, move, move_from, move_of, moved_by, setpgid_effect}
+use Rattle.ops_groups.specs.Setpgid.{setpgid_entry, group_refusal, first_of, refusal_by, setpgid_refusal, place_in, move_from, move_of, moved_by, setpgid_effect}
+use Rattle.ops_groups.specs.Move.{placed_at, move}
 use Rattle.ops_groups.specs.MoveLaw.{Moves}
-use Rattle.ops_groups.proofs.Moved.{still, taken_to}
+use Rattle.ops_groups.proofs.Moved.{row_later, still, taken_to}
 use Rattle.ops_groups.proofs.Move.{move_law}
 use Rattle.ops_groups.proofs.Refusals.{Names, named, early_is, early_by, refusal_is, target_same, wanted_same}
 use Rattle.decide_law.proofs.ReplyStep.{reply_step, able}
 use Rattle.decide_law.specs.Nudges.{named_by, moved_nudges, but_system, nudges_of}
 use Rattle.decide_law.specs.Places.{is_placed}
-use Rattle.list_laws.proofs.Finding.{same_number}
+use Rattle.list_laws.proofs.Finding.{found, same_number}
 
 -- ---- replies
 -- the reply that the refusals leave is allowed
@@ -101,9 +103,21 @@ either false true e = inr refl
 either false false e = cc
 
 -- ---- a move
+-- where a living process is held with its group, the group of its row is held
+pub living_group : (rows : List Row) (bag : Bag) (q : Pid) (d : Row) → Agrees bag rows → row_of rows q ≡ Some d → is_living d.life ≡ true → EachHeld bag (with_living_group bag q) → is_some (group_at bag d.group) ≡ true
+living_group rows bag q d a here living held = go (vproc_at bag q) refl held.0 held.1
+  where
+    go : (o : Option (Option Vproc)) → vproc_at bag q ≡ o → is_some o ≡ true → EachHeld bag (living_group_shown (present o)) → is_some (group_at bag d.group) ≡ true
+    go None e h k = cc
+    go (Some None) e h k = absurd (subst (VprocAgrees rows None) here (a.vprocs q None e))
+    go (Some (Some y)) e h k =
+        let is : IsRecordOf rows y d = own_record rows q bag d y a here e in
+        let shown = subst (λ (b : Bool). EachHeld bag (cond b (G y.group ∷ []) [])) (ap is_living is.life ∙ living) k in
+        subst (λ (i : Pid). is_some (group_at bag i) ≡ true) is.group shown.0
+
 -- what a move asks, from what is held and no refusal
 moves : (rows : List Row) (p : Pid) (sig : Signals) (bag : Bag) (r : Row) (v : Vproc) (g : Group) (t new : Pid) (u : Vproc) (c : Row) (old : Group) → Settled rows p sig bag r v g → Names rows bag p v r t u c → EachHeld bag (move_footprint bag v u new) →
-    early_refusal v (Some u) ≡ None → group_refusal bag v t new ≡ None → group_at bag c.group ≡ Some (Some old) → (u.group.0 == new.0) ≡ false → Moves rows bag u c old new
+    early_refusal v (Some u) ≡ None → group_refusal bag v t new ≡ None → group_at bag c.group ≡ Some (Some old) → (u.group.0 == new.0) ≡ false → Moves rows bag u c old (place_in u new)
 moves rows p sig bag r v g t new u c old a n held early rest old_at differs = record {
   row = subst (λ (x : Pid). row_of rows x ≡ Some c) (sym n.is.pid) (row_own rows t c n.row);
   living = alive (is_pid r.pid c) refl facts.0;
@@ -113,11 +127,15 @@ moves rows p sig bag r v g t new u c old a n held early rest old_at differs = re
   differs = eqb-false _ _ differs;
   session = λ h e. meets h e (either (is_same new t) (is_session_group v (group_in bag new)) rest);
   parent = up n.kin (is_same u.pid v.pid) refl (held_first bag (cond (is_same u.pid v.pid) (parent_name u) []) (living_children_footprint bag u) held.1.1);
-  children = λ q d here e. (held_flat bag (with_living_group bag) u.children q (held_later bag (cond (is_same u.pid v.pid) (parent_name u) []) (living_children_footprint bag u) held.1.1) (child_listed rows u c q d n.is here (e ∙ ap (λ (x : Pid). x.0) n.is.pid))).0;
+  children = λ q d here e. (child q d here e).0;
+  child_groups = λ q d here e living. living_group rows bag q d a.agrees here living (child q d here e);
 }
   where
     of : IsRecordOf rows v r
     of = own_record rows p bag r v a.agrees a.row a.vproc
+
+    child : (q : Pid) (d : Row) → row_of rows q ≡ Some d → d.parent.0 ≡ u.pid.0 → EachHeld bag (with_living_group bag q)
+    child q d here e = held_flat bag (with_living_group bag) u.children q (held_later bag (cond (is_same u.pid v.pid) (parent_name u) []) (living_children_footprint bag u) held.1.1) (child_listed rows u c q d n.is here (e ∙ ap (λ (x : Pid). x.0) n.is.pid))
 
     at_p : v.pid ≡ p
     at_p = of.pid ∙ row_pid rows p r a.row
@@ -156,16 +174,37 @@ moves rows p sig bag r v g t new u c old a n held early rest old_at differs = re
         pick true s k = inl (no_system rows c.parent a.sound (ap (λ (x : Pid). x.0) (sym n.is.parent) ∙ eqb-true _ _ s))
         pick false s k = inr (subst (λ (x : Pid). is_some (vproc_at bag x) ≡ true) n.is.parent k.0)
 
--- a change to the same group changes nothing
-unmoved : (rows : List Row) (u : Vproc) (c : Row) (new : Pid) → AreDistinct rows → row_of rows u.pid ≡ Some c → c.group ≡ new → map (regrouped_at u.pid new) rows ≡ rows
-unmoved rows u c new d here e = map-same number (regrouped_at u.pid new) (λ x. x) rows (distinct rows d) (λ x at_x. pick x at_x (x.pid.0 == u.pid.0) refl) ∙ map-id rows
+-- the session stays
+placed_rows : (rows : List Row) (u : Vproc) (c : Row) (new : Pid) → AreDistinct rows → row_of rows u.pid ≡ Some c → u.session ≡ c.session → map (regrouped_at u.pid new) rows ≡ map (placed_at u.pid (place_in u new)) rows
+placed_rows rows u c new d here e = map-same number (regrouped_at u.pid new) (placed_at u.pid (place_in u new)) rows (distinct rows d) (λ x at_x. pick x at_x (x.pid.0 == u.pid.0) refl)
   where
-    pick : (x : Row) → row_of rows x.pid ≡ Some x → (b : Bool) → (x.pid.0 == u.pid.0) ≡ b → regrouped_at u.pid new x ≡ x
+    pick : (x : Row) → row_of rows x.pid ≡ Some x → (b : Bool) → (x.pid.0 == u.pid.0) ≡ b → record x { group = cond b new x.group } ≡ record x { group = cond b new x.group; session = cond b u.session x.session }
+    pick x at_x true s =
+        let same : x ≡ c = some_same x c (sym at_x ∙ ap (row_of rows) (pid_same x.pid u.pid (eqb-true _ _ s)) ∙ here) in
+        ap (λ (z : Pid). record x { group = new; session = z }) (ap (λ (y : Row). y.session) same ∙ sym e)
+    pick x at_x false s = refl
+
+-- a change to the same group changes nothing
+unmoved : (rows : List Row) (u : Vproc) (c : Row) (new : Pid) → AreDistinct rows → row_of rows u.pid ≡ Some c → c.group ≡ new → u.session ≡ c.session → map (placed_at u.pid (place_in u new)) rows ≡ rows
+unmoved rows u c new d here e es = map-same number (placed_at u.pid (place_in u new)) (λ x. x) rows (distinct rows d) (λ x at_x. pick x at_x (x.pid.0 == u.pid.0) refl) ∙ map-id rows
+  where
+    pick : (x : Row) → row_of rows x.pid ≡ Some x → (b : Bool) → (x.pid.0 == u.pid.0) ≡ b → placed_at u.pid (place_in u new) x ≡ x
     pick x at_x true s =
         let n : x.pid.0 ≡ u.pid.0 = eqb-true _ _ s in
         let same : x ≡ c = some_same x c (sym at_x ∙ ap (row_of rows) (pid_same x.pid u.pid n) ∙ here) in
-        taken_to u.pid new x n ∙ ap (λ (z : Pid). record x { group = z }) (sym (ap (λ (y : Row). y.group) same ∙ e))
-    pick x at_x false s = still u.pid new x (eqb-false _ _ s)
+        taken_to u.pid (place_in u new) x n ∙ ap (λ (z : Pid). record x { group = z; session = u.session }) (sym (ap (λ (y : Row). y.group) same ∙ e)) ∙ ap (λ (z : Pid). record x { session = z }) (es ∙ sym (ap (λ (y : Row). y.session) same))
+    pick x at_x false s = still u.pid (place_in u new) x (eqb-false _ _ s)
+
+-- the one that moves and its parent are nudged
+nudges_are : (rows : List Row) (p : Pid) (t : ℕ) (u : Vproc) (c : Row) (new : Pid) → IsRecordOf rows u c → row_of rows u.pid ≡ Some c → (u.group.0 == new.0) ≡ false → named_by p t ≡ u.pid →
+    but_system p u.pid ++ but_system p u.parent ≡ moved_nudges p (row_of rows (named_by p t)) (row_of (map (placed_at u.pid (place_in u new)) rows) (named_by p t))
+nudges_are rows p t u c new of here differs named =
+    let now : row_of (map (placed_at u.pid (place_in u new)) rows) u.pid ≡ Some (record c { group = new; session = u.session }) =
+    row_later rows u.pid (place_in u new) u.pid ∙ ap (option_map (placed_at u.pid (place_in u new))) here ∙ ap Some (taken_to u.pid (place_in u new) c (found number u.pid.0 rows c here)) in
+    ap (λ (i : Pid). but_system p i ++ but_system p u.parent) of.pid ∙ ap (λ (i : Pid). but_system p c.pid ++ but_system p i) of.parent
+    ∙ sym (ap (λ (i : Pid). moved_nudges p (row_of rows i) (row_of (map (placed_at u.pid (place_in u new)) rows) i)) named
+    ∙ ap (λ (o : Option Row). moved_nudges p o (row_of (map (placed_at u.pid (place_in u new)) rows) u.pid)) here ∙ ap (moved_nudges p (Some c)) now
+    ∙ ap (λ (b : Bool). cond b [] (but_system p c.pid ++ but_system p c.parent)) (ap (λ (i : Pid). i.0 == new.0) (sym of.group) ∙ differs))
 
 -- ---- the decision
 group_present : (bag : Bag) (id : Pid) (g : Group) → group_at bag id ≡ Some (Some g) → group_in bag id ≡ Some g
@@ -195,19 +234,27 @@ rest_held bag v u t new e none held =
 -- a target that is named and not refused
 moved_to : (rows : List Row) (p : Pid) (site : Site) (at : Option NodeId) (sig : Signals) (bag : Bag) (r : Row) (v : Vproc) (g : Group) (t : ℕ) (q : ℤ) (target new : Pid) (u : Vproc) (c : Row) (old : Group) →
     Settled rows p sig bag r v g → is_stopped r.life ≡ false → Names rows bag p v r target u c → EachHeld bag (move_footprint bag v u new) → early_refusal v (Some u) ≡ None → group_refusal bag v target new ≡ None → group_at bag c.group ≡ Some (Some old) → named_by p t ≡ target →
-    verdict rows (setpgid_entry p t q) ≡ Legal → after rows (setpgid_entry p t q) ≡ map (regrouped_at u.pid new) rows → (b : Bool) → is_same u.group new ≡ b →
-    StepBy rows p at site t q bag (if b then replied p (Setpgid t q) Fine sig else move bag sig p t q u old new)
+    verdict rows (setpgid_entry p t q) ≡ Legal → after rows (setpgid_entry p t q) ≡ map (placed_at u.pid (place_in u new)) rows → (b : Bool) → is_same u.group new ≡ b →
+    StepBy rows p at site t q bag (if b then replied p (Setpgid t q) Fine sig else move (setpgid_entry p t q) bag sig p u old (place_in u new))
 moved_to rows p site at sig bag r v g t q target new u c old a alive m held early rest e is_named legal table true s =
     quiet_reply rows p site at sig bag r v g t q Fine a alive legal
-    (table ∙ unmoved rows u c new a.sound.distinct (subst (λ (x : Pid). row_of rows x ≡ Some c) (sym m.is.pid) (row_own rows target c m.row)) (sym m.is.group ∙ pid_same u.group new (eqb-true _ _ s)))
+    (table ∙ unmoved rows u c new a.sound.distinct (subst (λ (x : Pid). row_of rows x ≡ Some c) (sym m.is.pid) (row_own rows target c m.row)) (sym m.is.group ∙ pid_same u.group new (eqb-true _ _ s)) m.is.session)
     refl (λ before left. nobody_moved p (row_of rows (named_by p t))) tt
 moved_to rows p site at sig bag r v g t q target new u c old a alive m held early rest e is_named legal table false s =
-    subst (λ (now : List Row). IsStep rows now p (Ask (Setpgid t q) at) site bag (decided_by (move bag sig p t q u old new)) (written (move bag sig p t q u old new) bag)) (sym table)
-    (move_law rows p site at sig bag r v g t q u c old new a (moves rows p sig bag r v g target new u c old a m held early rest e s) (is_named ∙ sym (m.is.pid ∙ row_pid rows target c m.row)) alive legal table)
+    subst (λ (now : List Row). IsStep rows now p (Ask (Setpgid t q) at) site bag (decided_by (move (setpgid_entry p t q) bag sig p u old (place_in u new))) (written (move (setpgid_entry p t q) bag sig p u old (place_in u new)) bag)) (sym table)
+    (move_law rows p site at sig bag r v g (Setpgid t q) Fine u c old (place_in u new) a (moves rows p sig bag r v g target new u c old a m held early rest e s) alive record {
+      legal = legal;
+      table = table;
+      sends = λ d. nothing_sent rows p r t q Fine d a.row;
+      nudges = λ before left. nudges_are rows p t u c new m.is (subst (λ (x : Pid). row_of rows x ≡ Some c) (sym m.is.pid) (row_own rows target c m.row)) s (is_named ∙ sym (m.is.pid ∙ row_pid rows target c m.row));
+      place = λ was here. refl;
+      unplaced = refl;
+      born = tt;
+    })
 
 found_step : (rows : List Row) (p : Pid) (site : Site) (at : Option NodeId) (sig : Signals) (bag : Bag) (r : Row) (v : Vproc) (g : Group) (t : ℕ) (q : ℤ) (target new : Pid) (u : Vproc) (c : Row) →
     Settled rows p sig bag r v g → is_stopped r.life ≡ false → Names rows bag p v r target u c → EachHeld bag (move_footprint bag v u new) → early_refusal v (target_in bag v target) ≡ None → group_refusal bag v target new ≡ None → named_by p t ≡ target →
-    verdict rows (setpgid_entry p t q) ≡ Legal → after rows (setpgid_entry p t q) ≡ map (regrouped_at u.pid new) rows → StepBy rows p at site t q bag (move_of bag sig p t q new (target_in bag v target))
+    verdict rows (setpgid_entry p t q) ≡ Legal → after rows (setpgid_entry p t q) ≡ map (placed_at u.pid (place_in u new)) rows → StepBy rows p at site t q bag (move_of bag sig p t q new (target_in bag v target))
 found_step rows p site at sig bag r v g t q target new u c a alive m held early rest is_named legal table =
     let old = group_of_row rows bag target c a.agrees m.row (subst (λ (x : Pid). is_some (group_at bag x) ≡ true) m.is.group held.0) in
     subst (λ (o : Option Vproc). StepBy rows p at site t q bag (move_of bag sig p t q new o)) (sym m.target)
@@ -222,7 +269,8 @@ named_case rows p site at sig bag r v g t n a alive clear held none u c m =
     let of : IsRecordOf rows v r = own_record rows p bag r v a.agrees a.row a.vproc in
     found_step rows p site at sig bag r v g t (pos n) (target_pid v t) (wanted_group v t n) u c a alive m (rest_held bag v u (target_pid v t) (wanted_group v t n) m.target parts.0 held) parts.0 parts.1 (ap (λ (i : Pid). cond (t == 0) i (pid t)) (sym (of.pid ∙ row_pid rows p r a.row)))
     (legal_fine rows p sig bag r v g t n a alive clear held none)
-    (table_moved rows p r v t n u.pid a.row (own_record rows p bag r v a.agrees a.row a.vproc).pid (m.is.pid ∙ row_pid rows (target_pid v t) c m.row))
+    (table_moved rows p r v t n u.pid a.row (own_record rows p bag r v a.agrees a.row a.vproc).pid (m.is.pid ∙ row_pid rows (target_pid v t) c m.row)
+    ∙ placed_rows rows u c (wanted_group v t n) a.sound.distinct (subst (λ (x : Pid). row_of rows x ≡ Some c) (sym m.is.pid) (row_own rows (target_pid v t) c m.row)) m.is.session)
 
 stranger_refused : (bag : Bag) (v : Vproc) (t n : ℕ) → setpgid_refusal bag v t (pos n) ≡ None → target_in bag v (target_pid v t) ≡ None → ⊥
 stranger_refused bag v t n none away = let no : Some ESRCH ≡ None = ap (early_refusal v) (sym away) ∙ (parts_none bag v (target_pid v t) (wanted_group v t n) none).0 in cc

@@ -1,13 +1,14 @@
 -- the calls of this part, and what each does
 use Rattle.std.specs.Prelude.{None}
 use Rattle.unix_calls.specs.declared.Call.{Call}
-use Rattle.unix_calls.specs.declared.Call.TheVariants.{Getpid, Getppid, Getpgid, Getsid, Setpgid}
+use Rattle.unix_calls.specs.declared.Call.TheVariants.{Getpid, Getppid, Getpgid, Getsid, Setpgid, Setsid}
 use Rattle.unix_calls.specs.declared.Reply.TheVariants.{Number}
 use Rattle.unix_calls.specs.declared.Phase.TheVariants as phase
 use Rattle.decide_law.specs.Effects.{quiet, replied}
 use Rattle.decide_law.specs.Parts.{CallEffect, IsCallAnswered}
 use Rattle.ops_groups.specs.Lookups.{getpgid_reply, getsid_reply}
 use Rattle.ops_groups.specs.Setpgid.{setpgid_effect}
+use Rattle.ops_groups.specs.Setsid.{setsid_effect}
 
 -- the calls of this part
 abbrev pub IsGroupsCall : Call → Type 0
@@ -16,6 +17,7 @@ IsGroupsCall Getppid = Unit {0}
 IsGroupsCall (Getpgid t) = Unit {0}
 IsGroupsCall (Getsid t) = Unit {0}
 IsGroupsCall (Setpgid t q) = Unit {0}
+IsGroupsCall Setsid = Unit {0}
 IsGroupsCall _ = ⊥
 
 -- what a call does; one of another part does nothing here
@@ -25,6 +27,7 @@ effect_of Getppid bag sig p v = replied p Getppid (Number v.parent.0) sig
 effect_of (Getpgid t) bag sig p v = replied p (Getpgid t) (getpgid_reply bag v t) sig
 effect_of (Getsid t) bag sig p v = replied p (Getsid t) (getsid_reply bag v t) sig
 effect_of (Setpgid t q) bag sig p v = setpgid_effect bag sig p v t q
+effect_of Setsid bag sig p v = setsid_effect bag sig p v
 effect_of _ bag sig p v = quiet None sig phase.Ready
 
 -- each call of this part is answered by a step of the one kernel, or by asking for what lacks

@@ -1,4 +1,6 @@
+pub mod Move
 pub mod Setpgid
 pub mod MoveLaw
 pub mod Lookups
 pub mod Decide
+pub mod Setsid

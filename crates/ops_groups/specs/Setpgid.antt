@@ -1,6 +1,5 @@
 -- setpgid, decided on records (POSIX.1-2017, XSH setpgid)
 use Rattle.std.specs.Prelude.{ℕ, ℤ, pos, negsuc, Bool, true, false, ◌==◌, ◌&&◌, ◌||◌, not, List, [], ◌∷◌, ◌++◌, Option, None, Some, if◌then◌else◌}
-use Rattle.std.specs.Option.{option_map}
 use Rattle.unix_names.specs.declared.Pid.{Pid}
 use Rattle.unix_names.specs.declared.Errno.{Errno}
 use Rattle.unix_names.specs.declared.Errno.TheVariants.{EPERM, EINVAL}
@@ -8,20 +7,15 @@ use Rattle.unix_calls.specs.declared.Call.TheVariants.{Setpgid}
 use Rattle.unix_calls.specs.declared.Reply.TheVariants.{Fine, Refused}
 use Rattle.unix_calls.specs.declared.Entry.{Entry}
 use Rattle.unix_calls.specs.declared.Entry.TheVariants.{Called}
-use Rattle.unix_calls.specs.declared.Phase.TheVariants as phase
 use Rattle.signal_state.specs.Signals.{Signals}
 use Rattle.vproc_record.specs.declared.Vproc.{Vproc}
-use Rattle.group_record.specs.declared.Member.{Member}
 use Rattle.group_record.specs.declared.Group.{Group}
-use Rattle.group_record.specs.Groups.{joined, left}
-use Rattle.sig_stream.specs.Streams.{regrouped}
 use Rattle.record_bag.specs.declared.bag.Bag.{Bag}
 use Rattle.record_bag.specs.Bags.{group_in}
 use Rattle.process_table.specs.Rows.{is_same}
-use Rattle.decide_law.specs.Effects.{only, changed, same, regroups, Effect, quiet, unless_refused, replied}
-use Rattle.decide_law.specs.Counts.{recounted}
+use Rattle.decide_law.specs.Effects.{Effect, unless_refused, replied}
 use Rattle.decide_law.specs.Told.{target_pid, wanted_group, target_in, early_refusal, is_session_group}
-use Rattle.decide_law.specs.Nudges.{but_system}
+use Rattle.ops_groups.specs.Move.{Place, move}
 
 -- ---- refusals
 -- the last refusal: the group is neither the target's own pid nor a group of the caller's session
@@ -40,40 +34,17 @@ setpgid_refusal bag v t (negsuc _) = Some EINVAL
 setpgid_refusal bag v t (pos q) = refusal_by bag v (target_pid v t) (wanted_group v t q)
 
 -- ---- the change
--- the members of a group once u has left its group for this one, or for another
-abbrev pub moved_members : Bool → Vproc → Group → List Member
-moved_members true u g = (joined (left g u.pid) u.pid u.uid).members
-moved_members false u g = (left g u.pid).members
-
-abbrev pub moved_vproc : Group → Pid → Vproc → Vproc
-moved_vproc old new u = regrouped u old new
-
--- the bag once the record of u tells of the new group
-abbrev pub moved_vprocs : Bag → Vproc → Group → Pid → Bag
-moved_vprocs bag u old new = changed (only u.pid (option_map (moved_vproc old new))) same bag
-
--- a group after the move: u leaves its old one and joins the new one, and the links and stopped members are counted again, of which u and its children alone may have changed
-abbrev pub moved_group : Bag → Vproc → Group → Pid → Pid → Group → Group
-moved_group bag u old new id g = record (recounted bag (moved_vprocs bag u old new) (u.pid ∷ u.children) id g) { members = moved_members (is_same new id) u g }
-
 abbrev pub setpgid_entry : Pid → ℕ → ℤ → Entry
 setpgid_entry p t q = Called p (Setpgid t q) Fine
 
-abbrev pub move : Bag → Signals → Pid → ℕ → ℤ → Vproc → Group → Pid → Effect
-move bag sig p t q u old new = record {
-  entry = Some (setpgid_entry p t q);
-  sig = sig;
-  phase = phase.Ready;
-  born = None;
-  nudges = but_system p u.pid ++ but_system p u.parent;
-  vprocs = only u.pid (option_map (moved_vproc old new));
-  groups = regroups u.session (moved_group bag u old new);
-}
+-- the group, of the session that u is in
+abbrev pub place_in : Vproc → Pid → Place
+place_in u new = record { group = new; session = u.session }
 
 -- ---- the decision, where all of its footprint is held
 abbrev pub move_from : Bag → Signals → Pid → ℕ → ℤ → Vproc → Pid → Option Group → Effect
 move_from bag sig p t q u new None = replied p (Setpgid t q) Fine sig
-move_from bag sig p t q u new (Some old) = if is_same u.group new then replied p (Setpgid t q) Fine sig else move bag sig p t q u old new
+move_from bag sig p t q u new (Some old) = if is_same u.group new then replied p (Setpgid t q) Fine sig else move (setpgid_entry p t q) bag sig p u old (place_in u new)
 
 abbrev pub move_of : Bag → Signals → Pid → ℕ → ℤ → Pid → Option Vproc → Effect
 move_of bag sig p t q new None = replied p (Setpgid t q) Fine sig
