@@ -42,7 +42,7 @@ moved_vprocs bag u old new = changed (only u.pid (option_map (moved_vproc old ne
 abbrev pub moved_group : Bag → Vproc → Group → GroupInSession → Pid → Group → Group
 moved_group bag u old new id g = record (recounted bag (moved_vprocs bag u old new) (u.pid ∷ u.children) id g) { members = moved_members (is_same new.group id) u g }
 
--- the effect of a call of p by which u moves: the two are nudged, u and its parent, but not p
+-- the effect of a call of p by which u moves: u and its parent are nudged, but neither p nor the system process
 abbrev pub move : Entry → Bag → Signals → Pid → Vproc → Group → GroupInSession → Effect
 move entry bag sig p u old new = record {
   entry = Some entry;
