@@ -1,5 +1,5 @@
 -- the small calls are steps of the one kernel
-use Rattle.std.proofs.Common.{◌≡◌, ◌==◌, ◌&&◌, ℕ, Bool, true, false, nat_lt, not, List, [], ◌∷◌, refl, sym, ap, ◌∙◌, arith, Option, None, Some, if◌then◌else◌}
+use Rattle.std.proofs.Common.{◌≡◌, ◌==◌, ℕ, Bool, true, false, nat_lt, List, [], ◌∷◌, refl, sym, ap, arith, Option, None, Some, if◌then◌else◌}
 use Rattle.std.proofs.lemmas.Bool.{eqb-true, eqb-false, ltb-false}
 use Rattle.std.specs.Prelude.{is_some, is_none as is_none_of}
 use Rattle.unix_names.specs.declared.Pid.{Pid}

@@ -1,5 +1,5 @@
 -- setsid is a step of the one kernel
-use Rattle.std.proofs.Common.{◌++◌, ◌≡◌, ◌≢◌, ◌==◌, ◌||◌, ℕ, Bool, true, false, cond, List, [], ◌∷◌, refl, sym, ap, ◌∙◌, subst, Option, None, Some, ◌⊎◌, inl, inr}
+use Rattle.std.proofs.Common.{◌++◌, ◌≡◌, ◌==◌, ◌||◌, Bool, true, false, cond, List, [], ◌∷◌, refl, sym, ap, ◌∙◌, subst, Option, None, Some, ◌⊎◌, inl, inr}
 use Rattle.std.specs.Prelude.{is_some, map}
 use Rattle.std.specs.List.{list_any}
 use Rattle.std.proofs.lemmas.Bool.{eqb-true, ne_eqb, eq-eqb}
@@ -7,7 +7,6 @@ use Rattle.list_laws.proofs.Elements.{any_some, any_none_found}
 use Rattle.unix_names.specs.declared.Pid.{Pid}
 use Rattle.unix_names.specs.declared.NodeId.{NodeId}
 use Rattle.unix_names.specs.declared.Name.TheVariants.{V}
-use Rattle.unix_names.specs.declared.Errno.{Errno}
 use Rattle.unix_names.specs.declared.Errno.TheVariants.{EPERM}
 use Rattle.unix_calls.specs.declared.Call.TheVariants.{Setsid}
 use Rattle.unix_calls.specs.declared.Reply.TheVariants.{Number, Refused}
@@ -30,14 +29,14 @@ use Rattle.decide_law.specs.Effects.{Effect, decided_by, written, unless_refused
 use Rattle.decide_law.specs.Footprints.{with_living_group, living_children_footprint, parent_name, setsid_rest}
 use Rattle.decide_law.specs.Nudges.{but_system, parent_of_row}
 use Rattle.decide_law.specs.Parts.{EachHeld, IsCallStep}
-use Rattle.decide_law.proofs.Records.{number, distinct, pid_same, row_pid, row_own}
+use Rattle.decide_law.proofs.Records.{number, distinct, pid_same, row_pid}
 use Rattle.decide_law.proofs.Counts.{no_system}
 use Rattle.decide_law.proofs.Groups.{nobody}
 use Rattle.decide_law.proofs.Held.{held_first, held_later, held_flat}
 use Rattle.decide_law.proofs.Shell.{own_record}
 use Rattle.decide_law.proofs.Told.{child_listed, has_row}
 use Rattle.decide_law.proofs.ReplyStep.{reply_step, refused_legal}
-use Rattle.ops_groups.specs.Move.{placed_at, move}
+use Rattle.ops_groups.specs.Move.{moved_at, move}
 use Rattle.ops_groups.specs.MoveLaw.{Moves}
 use Rattle.ops_groups.specs.Setsid.{setsid_entry, led_by, led_from, setsid_effect}
 use Rattle.ops_groups.proofs.Move.{move_law}
@@ -123,8 +122,8 @@ led_step rows p site at sig bag r v g a alive clear of free held =
       born = tt;
     })
   where
-    table : next rows (Some (setsid_entry p)) ≡ map (placed_at v.pid (led_by v)) rows
-    table = ap (λ o. after_at rows o (setsid_entry p)) a.row ∙ ap (λ (i : Pid). map (placed_at i (record { group = i; session = i })) rows) (sym of.pid)
+    table : next rows (Some (setsid_entry p)) ≡ map (moved_at v.pid (led_by v)) rows
+    table = ap (λ o. after_at rows o (setsid_entry p)) a.row ∙ ap (λ (i : Pid). map (moved_at i (record { group = i; session = i })) rows) (sym of.pid)
 
 -- ---- the whole
 setsid_step : (rows : List Row) (p : Pid) (site : Site) (at : Option NodeId) (sig : Signals) (bag : Bag) (r : Row) (v : Vproc) (g : Group) → Settled rows p sig bag r v g → is_stopped r.life ≡ false → deliverable sig ≡ 0 → IsRecordOf rows v r →

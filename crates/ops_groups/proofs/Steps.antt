@@ -1,7 +1,7 @@
 -- each call of this part is answered as the law has it
 use Rattle.unix_calls.specs.declared.Call.{Call}
 use Rattle.unix_calls.specs.declared.Call.TheVariants.{Getpid, Getppid, Getpgid, Getsid, Setpgid, Setsid}
-use Rattle.decide_law.specs.Parts.{IsCallStep, IsCallAnswered}
+use Rattle.decide_law.specs.Parts.{IsCallStep}
 use Rattle.decide_law.proofs.PartRight.{call_answered}
 use Rattle.ops_groups.specs.Decide.{IsGroupsCall, effect_of, GroupsCallsAnswered}
 use Rattle.ops_groups.proofs.LookSteps.{getpid_is_step, getppid_is_step, getpgid_is_step, getsid_is_step}

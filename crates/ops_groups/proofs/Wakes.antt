@@ -17,7 +17,7 @@ use Rattle.decide_law.specs.Agrees.{Agrees, IsRecordOf}
 use Rattle.decide_law.specs.Wakes.{report_in, seen_by, WakesOthers}
 use Rattle.decide_law.proofs.Records.{number, pid_same, row_pid}
 use Rattle.decide_law.proofs.Shell.{own_record}
-use Rattle.ops_groups.specs.Move.{Place, placed_at}
+use Rattle.ops_groups.specs.Move.{GroupInSession, moved_at}
 use Rattle.ops_groups.specs.MoveLaw.{Moves}
 use Rattle.ops_groups.proofs.Moved.{later, row_later, still}
 use Rattle.decide_law.specs.Nudges.{but_system}
@@ -39,7 +39,7 @@ another p q m np ns e = λ s. go s (q.0 == p.0) (q.0 == 1) refl refl e
     go s false true ea eb h = ns (s ∙ eqb-true _ _ eb)
     go s false false ea eb h = let yes : (q.0 == m.0) ≡ true = eq-eqb _ _ (sym s) in let no : (q.0 == m.0) ≡ false = (either (q.0 == m.0) false h).0 in absurd cc
 
-pub move_wakes : (rows : List Row) (p : Pid) (bag : Bag) (u : Vproc) (x : Row) (old : Group) (new : Place) → IsSound rows → Agrees bag rows → Moves rows bag u x old new → WakesOthers rows (later u.pid new rows) p (but_system p u.pid ++ but_system p u.parent)
+pub move_wakes : (rows : List Row) (p : Pid) (bag : Bag) (u : Vproc) (x : Row) (old : Group) (new : GroupInSession) → IsSound rows → Agrees bag rows → Moves rows bag u x old new → WakesOthers rows (later u.pid new rows) p (but_system p u.pid ++ but_system p u.parent)
 move_wakes rows p bag u x old new k a w = λ m r r' np here here' living not_nudged. case m r r' np here here' (any_two m (but_system p u.pid) (but_system p u.parent) not_nudged)
   where
     of : IsRecordOf rows u x
@@ -51,17 +51,17 @@ move_wakes rows p bag u x old new k a w = λ m r r' np here here' living not_nud
         let ns : m.0 ≢ 1 = λ s. (k.each m r here).not_system (ap (λ (i : Pid). i.0) (row_pid rows m r here) ∙ s) in
         let nu = another p u.pid m np ns none.0 in
         let nq = another p u.parent m np ns none.1 in (
-          ap (λ (c : Row). c.group) (some_same _ _ (sym here' ∙ row_later rows u.pid new m ∙ ap (option_map (placed_at u.pid new)) here ∙ ap Some (still u.pid new r (λ s. nu (sym (found number m.0 rows r here) ∙ s))))),
+          ap (λ (c : Row). c.group) (some_same _ _ (sym here' ∙ row_later rows u.pid new m ∙ ap (option_map (moved_at u.pid new)) here ∙ ap Some (still u.pid new r (λ s. nu (sym (found number m.0 rows r here) ∙ s))))),
           λ q. ap (λ (o : Option Row). option_map report_in (option_filter (is_parent m) o)) (row_later rows u.pid new q) ∙ go m nq q (row_of rows q) refl,
         )
       where
-        go : (m : Pid) → m.0 ≢ u.parent.0 → (q : Pid) (o : Option Row) → row_of rows q ≡ o → option_map report_in (option_filter (is_parent m) (option_map (placed_at u.pid new) o)) ≡ option_map report_in (option_filter (is_parent m) o)
+        go : (m : Pid) → m.0 ≢ u.parent.0 → (q : Pid) (o : Option Row) → row_of rows q ≡ o → option_map report_in (option_filter (is_parent m) (option_map (moved_at u.pid new) o)) ≡ option_map report_in (option_filter (is_parent m) o)
         go m nq q None e = refl
         go m nq q (Some c) e = pick (c.pid.0 == u.pid.0) refl
           where
-            pick : (b : Bool) → (c.pid.0 == u.pid.0) ≡ b → option_map report_in (option_filter (is_parent m) (Some (placed_at u.pid new c))) ≡ option_map report_in (option_filter (is_parent m) (Some c))
+            pick : (b : Bool) → (c.pid.0 == u.pid.0) ≡ b → option_map report_in (option_filter (is_parent m) (Some (moved_at u.pid new c))) ≡ option_map report_in (option_filter (is_parent m) (Some c))
             pick true s =
                 let same : c ≡ x = some_same c x (sym e ∙ ap (row_of rows) (pid_same q u.pid (sym (found number q.0 rows c e) ∙ eqb-true _ _ s)) ∙ w.row) in
                 let far : is_parent m c ≡ false = ne_eqb _ _ (λ h. nq (sym h ∙ ap (λ (y : Row). y.parent.0) same ∙ ap (λ (i : Pid). i.0) (sym of.parent))) in
-                ap (λ (b : Bool). option_map report_in (cond b (Some (placed_at u.pid new c)) None)) far ∙ sym (ap (λ (b : Bool). option_map report_in (cond b (Some c) None)) far)
+                ap (λ (b : Bool). option_map report_in (cond b (Some (moved_at u.pid new c)) None)) far ∙ sym (ap (λ (b : Bool). option_map report_in (cond b (Some c) None)) far)
             pick false s = ap (λ (y : Row). option_map report_in (option_filter (is_parent m) (Some y))) (still u.pid new c (eqb-false _ _ s))

@@ -16,12 +16,10 @@ use Rattle.unix_calls.specs.declared.Reply.{Reply}
 use Rattle.unix_calls.specs.declared.Reply.TheVariants.{Fine, Refused}
 use Rattle.unix_calls.specs.declared.Entry.TheVariants.{Called}
 use Rattle.unix_calls.specs.declared.Job.TheVariants.{Ask}
-use Rattle.unix_calls.specs.declared.Phase.TheVariants as phase
 use Rattle.signal_state.specs.Signals.{Signals}
 use Rattle.signal_state.specs.Sig.{deliverable}
 use Rattle.vproc_record.specs.declared.Vproc.{Vproc}
 use Rattle.group_record.specs.declared.Group.{Group}
-use Rattle.group_record.specs.Groups.{settled}
 use Rattle.record_bag.specs.declared.bag.Bag.{Bag}
 use Rattle.record_bag.specs.declared.vector.Site.{Site}
 use Rattle.record_bag.specs.Bags.{present, group_in}
@@ -42,13 +40,13 @@ use Rattle.decide_law.specs.Told.{target_pid, wanted_group, target_in, has_child
 use Rattle.decide_law.specs.Footprints.{setpgid_footprint, regroup_footprint, move_footprint, move_footprint_of, with_living_group, living_group_shown, living_children_footprint, parent_name}
 use Rattle.decide_law.proofs.Records.{number, distinct, pid_same, row_pid, row_own}
 use Rattle.decide_law.proofs.Counts.{no_system}
-use Rattle.decide_law.proofs.Held.{none_lacks, held_first, held_later, held_flat}
+use Rattle.decide_law.proofs.Held.{held_first, held_later, held_flat}
 use Rattle.decide_law.specs.Parts.{EachHeld, IsCallStep}
 use Rattle.decide_law.proofs.Quiet.{legal_call}
 use Rattle.decide_law.proofs.Shell.{own_record}
 use Rattle.decide_law.proofs.Told.{child_listed, has_row, group_of_row}
-use Rattle.ops_groups.specs.Setpgid.{setpgid_entry, group_refusal, first_of, refusal_by, setpgid_refusal, place_in, move_from, move_of, moved_by, setpgid_effect}
-use Rattle.ops_groups.specs.Move.{placed_at, move}
+use Rattle.ops_groups.specs.Setpgid.{setpgid_entry, group_refusal, first_of, refusal_by, setpgid_refusal, within_session, move_from, move_of, moved_by, setpgid_effect}
+use Rattle.ops_groups.specs.Move.{moved_at, move}
 use Rattle.ops_groups.specs.MoveLaw.{Moves}
 use Rattle.ops_groups.proofs.Moved.{row_later, still, taken_to}
 use Rattle.ops_groups.proofs.Move.{move_law}
@@ -117,7 +115,7 @@ living_group rows bag q d a here living held = go (vproc_at bag q) refl held.0 h
 
 -- what a move asks, from what is held and no refusal
 moves : (rows : List Row) (p : Pid) (sig : Signals) (bag : Bag) (r : Row) (v : Vproc) (g : Group) (t new : Pid) (u : Vproc) (c : Row) (old : Group) → Settled rows p sig bag r v g → Names rows bag p v r t u c → EachHeld bag (move_footprint bag v u new) →
-    early_refusal v (Some u) ≡ None → group_refusal bag v t new ≡ None → group_at bag c.group ≡ Some (Some old) → (u.group.0 == new.0) ≡ false → Moves rows bag u c old (place_in u new)
+    early_refusal v (Some u) ≡ None → group_refusal bag v t new ≡ None → group_at bag c.group ≡ Some (Some old) → (u.group.0 == new.0) ≡ false → Moves rows bag u c old (within_session u new)
 moves rows p sig bag r v g t new u c old a n held early rest old_at differs = record {
   row = subst (λ (x : Pid). row_of rows x ≡ Some c) (sym n.is.pid) (row_own rows t c n.row);
   living = alive (is_pid r.pid c) refl facts.0;
@@ -175,8 +173,8 @@ moves rows p sig bag r v g t new u c old a n held early rest old_at differs = re
         pick false s k = inr (subst (λ (x : Pid). is_some (vproc_at bag x) ≡ true) n.is.parent k.0)
 
 -- the session stays
-placed_rows : (rows : List Row) (u : Vproc) (c : Row) (new : Pid) → AreDistinct rows → row_of rows u.pid ≡ Some c → u.session ≡ c.session → map (regrouped_at u.pid new) rows ≡ map (placed_at u.pid (place_in u new)) rows
-placed_rows rows u c new d here e = map-same number (regrouped_at u.pid new) (placed_at u.pid (place_in u new)) rows (distinct rows d) (λ x at_x. pick x at_x (x.pid.0 == u.pid.0) refl)
+moved_rows : (rows : List Row) (u : Vproc) (c : Row) (new : Pid) → AreDistinct rows → row_of rows u.pid ≡ Some c → u.session ≡ c.session → map (regrouped_at u.pid new) rows ≡ map (moved_at u.pid (within_session u new)) rows
+moved_rows rows u c new d here e = map-same number (regrouped_at u.pid new) (moved_at u.pid (within_session u new)) rows (distinct rows d) (λ x at_x. pick x at_x (x.pid.0 == u.pid.0) refl)
   where
     pick : (x : Row) → row_of rows x.pid ≡ Some x → (b : Bool) → (x.pid.0 == u.pid.0) ≡ b → record x { group = cond b new x.group } ≡ record x { group = cond b new x.group; session = cond b u.session x.session }
     pick x at_x true s =
@@ -185,25 +183,25 @@ placed_rows rows u c new d here e = map-same number (regrouped_at u.pid new) (pl
     pick x at_x false s = refl
 
 -- a change to the same group changes nothing
-unmoved : (rows : List Row) (u : Vproc) (c : Row) (new : Pid) → AreDistinct rows → row_of rows u.pid ≡ Some c → c.group ≡ new → u.session ≡ c.session → map (placed_at u.pid (place_in u new)) rows ≡ rows
-unmoved rows u c new d here e es = map-same number (placed_at u.pid (place_in u new)) (λ x. x) rows (distinct rows d) (λ x at_x. pick x at_x (x.pid.0 == u.pid.0) refl) ∙ map-id rows
+unmoved : (rows : List Row) (u : Vproc) (c : Row) (new : Pid) → AreDistinct rows → row_of rows u.pid ≡ Some c → c.group ≡ new → u.session ≡ c.session → map (moved_at u.pid (within_session u new)) rows ≡ rows
+unmoved rows u c new d here e es = map-same number (moved_at u.pid (within_session u new)) (λ x. x) rows (distinct rows d) (λ x at_x. pick x at_x (x.pid.0 == u.pid.0) refl) ∙ map-id rows
   where
-    pick : (x : Row) → row_of rows x.pid ≡ Some x → (b : Bool) → (x.pid.0 == u.pid.0) ≡ b → placed_at u.pid (place_in u new) x ≡ x
+    pick : (x : Row) → row_of rows x.pid ≡ Some x → (b : Bool) → (x.pid.0 == u.pid.0) ≡ b → moved_at u.pid (within_session u new) x ≡ x
     pick x at_x true s =
         let n : x.pid.0 ≡ u.pid.0 = eqb-true _ _ s in
         let same : x ≡ c = some_same x c (sym at_x ∙ ap (row_of rows) (pid_same x.pid u.pid n) ∙ here) in
-        taken_to u.pid (place_in u new) x n ∙ ap (λ (z : Pid). record x { group = z; session = u.session }) (sym (ap (λ (y : Row). y.group) same ∙ e)) ∙ ap (λ (z : Pid). record x { session = z }) (es ∙ sym (ap (λ (y : Row). y.session) same))
-    pick x at_x false s = still u.pid (place_in u new) x (eqb-false _ _ s)
+        taken_to u.pid (within_session u new) x n ∙ ap (λ (z : Pid). record x { group = z; session = u.session }) (sym (ap (λ (y : Row). y.group) same ∙ e)) ∙ ap (λ (z : Pid). record x { session = z }) (es ∙ sym (ap (λ (y : Row). y.session) same))
+    pick x at_x false s = still u.pid (within_session u new) x (eqb-false _ _ s)
 
 -- the one that moves and its parent are nudged
 nudges_are : (rows : List Row) (p : Pid) (t : ℕ) (u : Vproc) (c : Row) (new : Pid) → IsRecordOf rows u c → row_of rows u.pid ≡ Some c → (u.group.0 == new.0) ≡ false → named_by p t ≡ u.pid →
-    but_system p u.pid ++ but_system p u.parent ≡ moved_nudges p (row_of rows (named_by p t)) (row_of (map (placed_at u.pid (place_in u new)) rows) (named_by p t))
+    but_system p u.pid ++ but_system p u.parent ≡ moved_nudges p (row_of rows (named_by p t)) (row_of (map (moved_at u.pid (within_session u new)) rows) (named_by p t))
 nudges_are rows p t u c new of here differs named =
-    let now : row_of (map (placed_at u.pid (place_in u new)) rows) u.pid ≡ Some (record c { group = new; session = u.session }) =
-    row_later rows u.pid (place_in u new) u.pid ∙ ap (option_map (placed_at u.pid (place_in u new))) here ∙ ap Some (taken_to u.pid (place_in u new) c (found number u.pid.0 rows c here)) in
+    let now : row_of (map (moved_at u.pid (within_session u new)) rows) u.pid ≡ Some (record c { group = new; session = u.session }) =
+    row_later rows u.pid (within_session u new) u.pid ∙ ap (option_map (moved_at u.pid (within_session u new))) here ∙ ap Some (taken_to u.pid (within_session u new) c (found number u.pid.0 rows c here)) in
     ap (λ (i : Pid). but_system p i ++ but_system p u.parent) of.pid ∙ ap (λ (i : Pid). but_system p c.pid ++ but_system p i) of.parent
-    ∙ sym (ap (λ (i : Pid). moved_nudges p (row_of rows i) (row_of (map (placed_at u.pid (place_in u new)) rows) i)) named
-    ∙ ap (λ (o : Option Row). moved_nudges p o (row_of (map (placed_at u.pid (place_in u new)) rows) u.pid)) here ∙ ap (moved_nudges p (Some c)) now
+    ∙ sym (ap (λ (i : Pid). moved_nudges p (row_of rows i) (row_of (map (moved_at u.pid (within_session u new)) rows) i)) named
+    ∙ ap (λ (o : Option Row). moved_nudges p o (row_of (map (moved_at u.pid (within_session u new)) rows) u.pid)) here ∙ ap (moved_nudges p (Some c)) now
     ∙ ap (λ (b : Bool). cond b [] (but_system p c.pid ++ but_system p c.parent)) (ap (λ (i : Pid). i.0 == new.0) (sym of.group) ∙ differs))
 
 -- ---- the decision
@@ -234,15 +232,15 @@ rest_held bag v u t new e none held =
 -- a target that is named and not refused
 moved_to : (rows : List Row) (p : Pid) (site : Site) (at : Option NodeId) (sig : Signals) (bag : Bag) (r : Row) (v : Vproc) (g : Group) (t : ℕ) (q : ℤ) (target new : Pid) (u : Vproc) (c : Row) (old : Group) →
     Settled rows p sig bag r v g → is_stopped r.life ≡ false → Names rows bag p v r target u c → EachHeld bag (move_footprint bag v u new) → early_refusal v (Some u) ≡ None → group_refusal bag v target new ≡ None → group_at bag c.group ≡ Some (Some old) → named_by p t ≡ target →
-    verdict rows (setpgid_entry p t q) ≡ Legal → after rows (setpgid_entry p t q) ≡ map (placed_at u.pid (place_in u new)) rows → (b : Bool) → is_same u.group new ≡ b →
-    StepBy rows p at site t q bag (if b then replied p (Setpgid t q) Fine sig else move (setpgid_entry p t q) bag sig p u old (place_in u new))
+    verdict rows (setpgid_entry p t q) ≡ Legal → after rows (setpgid_entry p t q) ≡ map (moved_at u.pid (within_session u new)) rows → (b : Bool) → is_same u.group new ≡ b →
+    StepBy rows p at site t q bag (if b then replied p (Setpgid t q) Fine sig else move (setpgid_entry p t q) bag sig p u old (within_session u new))
 moved_to rows p site at sig bag r v g t q target new u c old a alive m held early rest e is_named legal table true s =
     quiet_reply rows p site at sig bag r v g t q Fine a alive legal
     (table ∙ unmoved rows u c new a.sound.distinct (subst (λ (x : Pid). row_of rows x ≡ Some c) (sym m.is.pid) (row_own rows target c m.row)) (sym m.is.group ∙ pid_same u.group new (eqb-true _ _ s)) m.is.session)
     refl (λ before left. nobody_moved p (row_of rows (named_by p t))) tt
 moved_to rows p site at sig bag r v g t q target new u c old a alive m held early rest e is_named legal table false s =
-    subst (λ (now : List Row). IsStep rows now p (Ask (Setpgid t q) at) site bag (decided_by (move (setpgid_entry p t q) bag sig p u old (place_in u new))) (written (move (setpgid_entry p t q) bag sig p u old (place_in u new)) bag)) (sym table)
-    (move_law rows p site at sig bag r v g (Setpgid t q) Fine u c old (place_in u new) a (moves rows p sig bag r v g target new u c old a m held early rest e s) alive record {
+    subst (λ (now : List Row). IsStep rows now p (Ask (Setpgid t q) at) site bag (decided_by (move (setpgid_entry p t q) bag sig p u old (within_session u new))) (written (move (setpgid_entry p t q) bag sig p u old (within_session u new)) bag)) (sym table)
+    (move_law rows p site at sig bag r v g (Setpgid t q) Fine u c old (within_session u new) a (moves rows p sig bag r v g target new u c old a m held early rest e s) alive record {
       legal = legal;
       table = table;
       sends = λ d. nothing_sent rows p r t q Fine d a.row;
@@ -254,7 +252,7 @@ moved_to rows p site at sig bag r v g t q target new u c old a alive m held earl
 
 found_step : (rows : List Row) (p : Pid) (site : Site) (at : Option NodeId) (sig : Signals) (bag : Bag) (r : Row) (v : Vproc) (g : Group) (t : ℕ) (q : ℤ) (target new : Pid) (u : Vproc) (c : Row) →
     Settled rows p sig bag r v g → is_stopped r.life ≡ false → Names rows bag p v r target u c → EachHeld bag (move_footprint bag v u new) → early_refusal v (target_in bag v target) ≡ None → group_refusal bag v target new ≡ None → named_by p t ≡ target →
-    verdict rows (setpgid_entry p t q) ≡ Legal → after rows (setpgid_entry p t q) ≡ map (placed_at u.pid (place_in u new)) rows → StepBy rows p at site t q bag (move_of bag sig p t q new (target_in bag v target))
+    verdict rows (setpgid_entry p t q) ≡ Legal → after rows (setpgid_entry p t q) ≡ map (moved_at u.pid (within_session u new)) rows → StepBy rows p at site t q bag (move_of bag sig p t q new (target_in bag v target))
 found_step rows p site at sig bag r v g t q target new u c a alive m held early rest is_named legal table =
     let old = group_of_row rows bag target c a.agrees m.row (subst (λ (x : Pid). is_some (group_at bag x) ≡ true) m.is.group held.0) in
     subst (λ (o : Option Vproc). StepBy rows p at site t q bag (move_of bag sig p t q new o)) (sym m.target)
@@ -270,7 +268,7 @@ named_case rows p site at sig bag r v g t n a alive clear held none u c m =
     found_step rows p site at sig bag r v g t (pos n) (target_pid v t) (wanted_group v t n) u c a alive m (rest_held bag v u (target_pid v t) (wanted_group v t n) m.target parts.0 held) parts.0 parts.1 (ap (λ (i : Pid). cond (t == 0) i (pid t)) (sym (of.pid ∙ row_pid rows p r a.row)))
     (legal_fine rows p sig bag r v g t n a alive clear held none)
     (table_moved rows p r v t n u.pid a.row (own_record rows p bag r v a.agrees a.row a.vproc).pid (m.is.pid ∙ row_pid rows (target_pid v t) c m.row)
-    ∙ placed_rows rows u c (wanted_group v t n) a.sound.distinct (subst (λ (x : Pid). row_of rows x ≡ Some c) (sym m.is.pid) (row_own rows (target_pid v t) c m.row)) m.is.session)
+    ∙ moved_rows rows u c (wanted_group v t n) a.sound.distinct (subst (λ (x : Pid). row_of rows x ≡ Some c) (sym m.is.pid) (row_own rows (target_pid v t) c m.row)) m.is.session)
 
 stranger_refused : (bag : Bag) (v : Vproc) (t n : ℕ) → setpgid_refusal bag v t (pos n) ≡ None → target_in bag v (target_pid v t) ≡ None → ⊥
 stranger_refused bag v t n none away = let no : Some ESRCH ≡ None = ap (early_refusal v) (sym away) ∙ (parts_none bag v (target_pid v t) (wanted_group v t n) none).0 in cc

@@ -20,11 +20,11 @@ use Rattle.decide_law.specs.Agrees.{vproc_at, group_at}
 use Rattle.decide_law.specs.Law.{Settled, IsStep, IsNoBirth}
 use Rattle.decide_law.specs.Effects.{decided_by, written}
 use Rattle.decide_law.specs.Places.{is_placed, place_after}
-use Rattle.ops_groups.specs.Move.{Place, placed_at, move}
+use Rattle.ops_groups.specs.Move.{GroupInSession, moved_at, move}
 use Rattle.decide_law.specs.Nudges.{but_system, nudges_of}
 
 -- the process u, of row x, is the caller or another, and goes from its group to another
-pub record Moves (rows : List Row) (bag : Bag) (u : Vproc) (x : Row) (old : Group) (new : Place) : Type 0 where
+pub record Moves (rows : List Row) (bag : Bag) (u : Vproc) (x : Row) (old : Group) (new : GroupInSession) : Type 0 where
   pub row : row_of rows u.pid ≡ Some x
   pub living : is_living x.life ≡ true
   pub held : vproc_at bag u.pid ≡ Some (Some u)
@@ -39,17 +39,17 @@ pub record Moves (rows : List Row) (bag : Bag) (u : Vproc) (x : Row) (old : Grou
   pub child_groups : (q : Pid) (c : Row) → row_of rows q ≡ Some c → c.parent.0 ≡ u.pid.0 → is_living c.life ≡ true → is_some (group_at bag c.group) ≡ true
 
 -- the call of p, with this reply, is by the rules one by which u moves
-pub record IsMove (rows : List Row) (p : Pid) (u : Vproc) (new : Place) (call : Call) (reply : Reply) : Type 0 where
+pub record IsMove (rows : List Row) (p : Pid) (u : Vproc) (new : GroupInSession) (call : Call) (reply : Reply) : Type 0 where
   pub legal : verdict rows (Called p call reply) ≡ Legal
-  pub table : after rows (Called p call reply) ≡ map (placed_at u.pid new) rows
+  pub table : after rows (Called p call reply) ≡ map (moved_at u.pid new) rows
   pub sends : (c : Row) → sent rows (Called p call reply) c ≡ []
-  pub nudges : (before left : Bag) → but_system p u.pid ++ but_system p u.parent ≡ nudges_of rows (map (placed_at u.pid new) rows) p before left (Some (Called p call reply))
+  pub nudges : (before left : Bag) → but_system p u.pid ++ but_system p u.parent ≡ nudges_of rows (map (moved_at u.pid new) rows) p before left (Some (Called p call reply))
   pub place : (was here : NodeId) → place_after (Some (Called p call reply)) was here ≡ was
   pub unplaced : is_placed (Some (Called p call reply)) ≡ false
   pub born : IsNoBirth (Some (Called p call reply))
 
 -- such a move is a step of the one kernel
 abbrev pub MoveLaw : Type 0
-MoveLaw = (rows : List Row) (p : Pid) (site : Site) (node : Option NodeId) (sig : Signals) (bag : Bag) (r : Row) (v : Vproc) (g : Group) (call : Call) (reply : Reply) (u : Vproc) (x : Row) (old : Group) (new : Place) →
+MoveLaw = (rows : List Row) (p : Pid) (site : Site) (node : Option NodeId) (sig : Signals) (bag : Bag) (r : Row) (v : Vproc) (g : Group) (call : Call) (reply : Reply) (u : Vproc) (x : Row) (old : Group) (new : GroupInSession) →
     Settled rows p sig bag r v g → Moves rows bag u x old new → is_stopped r.life ≡ false → IsMove rows p u new call reply →
-    IsStep rows (map (placed_at u.pid new) rows) p (Ask call node) site bag (decided_by (move (Called p call reply) bag sig p u old new)) (written (move (Called p call reply) bag sig p u old new) bag)
+    IsStep rows (map (moved_at u.pid new) rows) p (Ask call node) site bag (decided_by (move (Called p call reply) bag sig p u old new)) (written (move (Called p call reply) bag sig p u old new) bag)

@@ -1,10 +1,10 @@
 -- setpgid, decided on records (POSIX.1-2017, XSH setpgid)
-use Rattle.std.specs.Prelude.{ℕ, ℤ, pos, negsuc, Bool, true, false, ◌==◌, ◌&&◌, ◌||◌, not, List, [], ◌∷◌, ◌++◌, Option, None, Some, if◌then◌else◌}
+use Rattle.std.specs.Prelude.{ℕ, ℤ, pos, negsuc, ◌&&◌, not, Option, None, Some, if◌then◌else◌}
 use Rattle.unix_names.specs.declared.Pid.{Pid}
 use Rattle.unix_names.specs.declared.Errno.{Errno}
 use Rattle.unix_names.specs.declared.Errno.TheVariants.{EPERM, EINVAL}
 use Rattle.unix_calls.specs.declared.Call.TheVariants.{Setpgid}
-use Rattle.unix_calls.specs.declared.Reply.TheVariants.{Fine, Refused}
+use Rattle.unix_calls.specs.declared.Reply.TheVariants.{Fine}
 use Rattle.unix_calls.specs.declared.Entry.{Entry}
 use Rattle.unix_calls.specs.declared.Entry.TheVariants.{Called}
 use Rattle.signal_state.specs.Signals.{Signals}
@@ -15,7 +15,7 @@ use Rattle.record_bag.specs.Bags.{group_in}
 use Rattle.process_table.specs.Rows.{is_same}
 use Rattle.decide_law.specs.Effects.{Effect, unless_refused, replied}
 use Rattle.decide_law.specs.Told.{target_pid, wanted_group, target_in, early_refusal, is_session_group}
-use Rattle.ops_groups.specs.Move.{Place, move}
+use Rattle.ops_groups.specs.Move.{GroupInSession, move}
 
 -- ---- refusals
 -- the last refusal: the group is neither the target's own pid nor a group of the caller's session
@@ -37,14 +37,14 @@ setpgid_refusal bag v t (pos q) = refusal_by bag v (target_pid v t) (wanted_grou
 abbrev pub setpgid_entry : Pid → ℕ → ℤ → Entry
 setpgid_entry p t q = Called p (Setpgid t q) Fine
 
--- the group, of the session that u is in
-abbrev pub place_in : Vproc → Pid → Place
-place_in u new = record { group = new; session = u.session }
+-- the group, of the session in which u is
+abbrev pub within_session : Vproc → Pid → GroupInSession
+within_session u new = record { group = new; session = u.session }
 
 -- ---- the decision, where all of its footprint is held
 abbrev pub move_from : Bag → Signals → Pid → ℕ → ℤ → Vproc → Pid → Option Group → Effect
 move_from bag sig p t q u new None = replied p (Setpgid t q) Fine sig
-move_from bag sig p t q u new (Some old) = if is_same u.group new then replied p (Setpgid t q) Fine sig else move (setpgid_entry p t q) bag sig p u old (place_in u new)
+move_from bag sig p t q u new (Some old) = if is_same u.group new then replied p (Setpgid t q) Fine sig else move (setpgid_entry p t q) bag sig p u old (within_session u new)
 
 abbrev pub move_of : Bag → Signals → Pid → ℕ → ℤ → Pid → Option Vproc → Effect
 move_of bag sig p t q new None = replied p (Setpgid t q) Fine sig

@@ -13,7 +13,7 @@ use Rattle.group_record.specs.declared.Group.{Group}
 use Rattle.record_bag.specs.declared.bag.Bag.{Bag}
 use Rattle.record_bag.specs.Bags.{group_in}
 use Rattle.decide_law.specs.Effects.{Effect, unless_refused, replied}
-use Rattle.ops_groups.specs.Move.{Place, move}
+use Rattle.ops_groups.specs.Move.{GroupInSession, move}
 
 -- the caller's pid is the id of a group
 abbrev pub setsid_refusal : Bag → Vproc → Option Errno
@@ -24,7 +24,7 @@ abbrev pub setsid_entry : Pid → Entry
 setsid_entry p = Called p Setsid (Number p.0)
 
 -- a group and a session of the process's own pid
-abbrev pub led_by : Vproc → Place
+abbrev pub led_by : Vproc → GroupInSession
 led_by v = record { group = v.pid; session = v.pid }
 
 -- the caller goes from its group to its own
