@@ -1,5 +1,5 @@
 -- each question that fits is answered as the law has it
-use Rattle.std.proofs.Common.{◌≡◌, ◌&&◌, ℕ, Bool, true, false, cond, List, refl, sym, ap, ◌∙◌, subst, Option, None, Some}
+use Rattle.std.proofs.Common.{◌≡◌, ◌&&◌, ℕ, Bool, true, false, List, refl, sym, ap, ◌∙◌, subst, Option, None, Some}
 use Rattle.std.specs.Prelude.{find, if◌then◌else◌}
 use Rattle.std.specs.Option.{option_map}
 use Rattle.list_laws.proofs.Filters.{some_same}
@@ -16,7 +16,7 @@ use Rattle.unix_calls.specs.declared.Event.TheVariants as events
 use Rattle.unix_calls.specs.declared.Job.{Job}
 use Rattle.unix_calls.specs.declared.Job.TheVariants.{Ask, Look, Push}
 use Rattle.signal_state.specs.Signals.{Signals}
-use Rattle.signal_state.specs.Sig.{deliverable, is_dropped_by_default}
+use Rattle.signal_state.specs.Sig.{deliverable}
 use Rattle.signal_state.specs.declared.Own.{Own}
 use Rattle.vproc_record.specs.declared.Vproc.{Vproc}
 use Rattle.group_record.specs.declared.Group.{Group}
