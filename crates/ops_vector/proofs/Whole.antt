@@ -53,7 +53,7 @@ use Rattle.ops_deliver.specs.Events.{event_answer}
 use Rattle.ops_deliver.proofs.Answered.{coming_first}
 use Rattle.ops_deliver.proofs.Steps.{events_answered}
 use Rattle.ops_vector.specs.Answer.{call_effect, call_answer, job_answer, event_effect, first_answer, held_answer}
-use Rattle.ops_vector.specs.Law.{IsDecided, IsDecidedJob, HasSignals, QuestionsAnswered}
+use Rattle.ops_vector.specs.Law.{HasSignals, QuestionsAnswered}
 
 -- ---- both records are held
 -- the answer is then the one on them
@@ -96,22 +96,22 @@ module _ (nodes : ℕ) (rows : List Row) (p : Pid) (own : Own) (bag : Bag) (site
   part : (call : Call) (at : Option NodeId) (effect : CallEffect) → IsCallAnswered call effect → Asks nodes rows p (Ask call at) own bag site → NothingComes p own bag → IsAnswered (Ask call at) (answer_by call effect own bag p v g)
   part call at effect lawful a clear = on_both (Ask call at) (answer_by call effect own bag p) (lawful p at own bag site nodes rows a clear)
 
-  call_right : (call : Call) (at : Option NodeId) → IsDecided call → Asks nodes rows p (Ask call at) own bag site → NothingComes p own bag → IsAnswered (Ask call at) (call_answer call at own bag site p v g)
-  call_right calls.Getpid at is a clear = part calls.Getpid at (call_effect calls.Getpid) (groups_calls_answered calls.Getpid tt) a clear
-  call_right calls.Getppid at is a clear = part calls.Getppid at (call_effect calls.Getppid) (groups_calls_answered calls.Getppid tt) a clear
-  call_right (calls.Getpgid t) at is a clear = part (calls.Getpgid t) at (call_effect (calls.Getpgid t)) (groups_calls_answered (calls.Getpgid t) tt) a clear
-  call_right (calls.Getsid t) at is a clear = part (calls.Getsid t) at (call_effect (calls.Getsid t)) (groups_calls_answered (calls.Getsid t) tt) a clear
-  call_right calls.Fork at is a clear = on_both (Ask calls.Fork at) (fork_answer at site own bag p) (fork_answered p at own bag site nodes rows a clear)
-  call_right calls.Exec at is a clear = part calls.Exec at (call_effect calls.Exec) (exit_wait_calls_answered calls.Exec tt) a clear
-  call_right (calls.Exit n) at is a clear = part (calls.Exit n) at (call_effect (calls.Exit n)) (exit_wait_calls_answered (calls.Exit n) tt) a clear
-  call_right (calls.Waitpid sel stopped continued) at is a clear = part (calls.Waitpid sel stopped continued) at (call_effect (calls.Waitpid sel stopped continued)) (exit_wait_calls_answered (calls.Waitpid sel stopped continued) tt) a clear
-  call_right (calls.Kill target s) at is a clear = part (calls.Kill target s) at (call_effect (calls.Kill target s)) (signal_calls_answered (calls.Kill target s) tt) a clear
-  call_right (calls.Setpgid t q) at is a clear = part (calls.Setpgid t q) at (call_effect (calls.Setpgid t q)) (groups_calls_answered (calls.Setpgid t q) tt) a clear
-  call_right calls.Setsid at is a clear = absurd is
-  call_right (calls.Action s act) at is a clear = part (calls.Action s act) at (call_effect (calls.Action s act)) (signal_calls_answered (calls.Action s act) tt) a clear
-  call_right (calls.Mask set) at is a clear = part (calls.Mask set) at (call_effect (calls.Mask set)) (signal_calls_answered (calls.Mask set) tt) a clear
-  call_right calls.Pending at is a clear = part calls.Pending at (call_effect calls.Pending) (signal_calls_answered calls.Pending tt) a clear
-  call_right calls.Migrate at is a clear = on_both (Ask calls.Migrate at) (migrate_answer at site own bag p) (moves_answered.migrate p at own bag site nodes rows a clear)
+  call_right : (call : Call) (at : Option NodeId) → Asks nodes rows p (Ask call at) own bag site → NothingComes p own bag → IsAnswered (Ask call at) (call_answer call at own bag site p v g)
+  call_right calls.Getpid at a clear = part calls.Getpid at (call_effect calls.Getpid) (groups_calls_answered calls.Getpid tt) a clear
+  call_right calls.Getppid at a clear = part calls.Getppid at (call_effect calls.Getppid) (groups_calls_answered calls.Getppid tt) a clear
+  call_right (calls.Getpgid t) at a clear = part (calls.Getpgid t) at (call_effect (calls.Getpgid t)) (groups_calls_answered (calls.Getpgid t) tt) a clear
+  call_right (calls.Getsid t) at a clear = part (calls.Getsid t) at (call_effect (calls.Getsid t)) (groups_calls_answered (calls.Getsid t) tt) a clear
+  call_right calls.Fork at a clear = on_both (Ask calls.Fork at) (fork_answer at site own bag p) (fork_answered p at own bag site nodes rows a clear)
+  call_right calls.Exec at a clear = part calls.Exec at (call_effect calls.Exec) (exit_wait_calls_answered calls.Exec tt) a clear
+  call_right (calls.Exit n) at a clear = part (calls.Exit n) at (call_effect (calls.Exit n)) (exit_wait_calls_answered (calls.Exit n) tt) a clear
+  call_right (calls.Waitpid sel stopped continued) at a clear = part (calls.Waitpid sel stopped continued) at (call_effect (calls.Waitpid sel stopped continued)) (exit_wait_calls_answered (calls.Waitpid sel stopped continued) tt) a clear
+  call_right (calls.Kill target s) at a clear = part (calls.Kill target s) at (call_effect (calls.Kill target s)) (signal_calls_answered (calls.Kill target s) tt) a clear
+  call_right (calls.Setpgid t q) at a clear = part (calls.Setpgid t q) at (call_effect (calls.Setpgid t q)) (groups_calls_answered (calls.Setpgid t q) tt) a clear
+  call_right calls.Setsid at a clear = part calls.Setsid at (call_effect calls.Setsid) (groups_calls_answered calls.Setsid tt) a clear
+  call_right (calls.Action s act) at a clear = part (calls.Action s act) at (call_effect (calls.Action s act)) (signal_calls_answered (calls.Action s act) tt) a clear
+  call_right (calls.Mask set) at a clear = part (calls.Mask set) at (call_effect (calls.Mask set)) (signal_calls_answered (calls.Mask set) tt) a clear
+  call_right calls.Pending at a clear = part calls.Pending at (call_effect calls.Pending) (signal_calls_answered calls.Pending tt) a clear
+  call_right calls.Migrate at a clear = on_both (Ask calls.Migrate at) (migrate_answer at site own bag p) (moves_answered.migrate p at own bag site nodes rows a clear)
 
   -- a process that looks is stopped
   is_looking : (a : Asks nodes rows p Look own bag site) → is_stopped a.row.life ≡ true
@@ -121,10 +121,10 @@ module _ (nodes : ℕ) (rows : List Row) (p : Pid) (own : Own) (bag : Bag) (site
       go true e = refl
       go false e = absurd (a.calls e refl)
 
-  job_right : (job : Job) → IsDecidedJob job → (a : Asks nodes rows p job own bag site) → Based rows p own bag a.row v g → first_event rows a.row ≡ None → NothingComes p own bag → IsAnswered job (job_answer job own bag site p v g)
-  job_right (Ask call at) is a b none clear = call_right call at is a clear
-  job_right Look is a b none clear = look_law rows p site own bag a.row v g b (is_looking a) none
-  job_right (Push node) is a b none clear = on_both (Push node) (push_answer node site own bag p) (moves_answered.push p node own bag site nodes rows a clear)
+  job_right : (job : Job) → (a : Asks nodes rows p job own bag site) → Based rows p own bag a.row v g → first_event rows a.row ≡ None → NothingComes p own bag → IsAnswered job (job_answer job own bag site p v g)
+  job_right (Ask call at) a b none clear = call_right call at a clear
+  job_right Look a b none clear = look_law rows p site own bag a.row v g b (is_looking a) none
+  job_right (Push node) a b none clear = on_both (Push node) (push_answer node site own bag p) (moves_answered.push p node own bag site nodes rows a clear)
 
   event_right : (event : Event) (job : Job) → (a : Asks nodes rows p job own bag site) → Based rows p own bag a.row v g → coming own v g ≡ Some event → IsAnswered job (event_answer event (event_effect event) own bag p v g)
   event_right (events.Caught s) job a b e = events_answered (events.Caught s) tt nodes rows p job own bag site a v g ev eg e
@@ -138,14 +138,14 @@ module _ (nodes : ℕ) (rows : List Row) (p : Pid) (own : Own) (bag : Bag) (site
   event_right events.Moved job a b e = absurd (no_move _ (folded own v g).sig e)
 
   -- an event that comes first, or else the job
-  first_right : (o : Option Event) (job : Job) → IsDecidedJob job → HasSignals rows p → (a : Asks nodes rows p job own bag site) → Based rows p own bag a.row v g → coming own v g ≡ o → IsAnswered job (first_answer o job own bag site p v g)
-  first_right (Some event) job is signals a b e = event_right event job a b e
-  first_right None job is signals a b e =
+  first_right : (o : Option Event) (job : Job) → HasSignals rows p → (a : Asks nodes rows p job own bag site) → Based rows p own bag a.row v g → coming own v g ≡ o → IsAnswered job (first_answer o job own bag site p v g)
+  first_right (Some event) job signals a b e = event_right event job a b e
+  first_right None job signals a b e =
       let none : first_event rows a.row ≡ None = sym (coming_first rows p own bag a.row v g b) ∙ e in
       let quiet = (none_where_clear rows a.row (signals a.row a.there)).0 none in
-      job_right job is a b none (clear_held p own bag v g ev eg (ap deliverable (sym b.own_is.sig) ∙ quiet.0))
+      job_right job a b none (clear_held p own bag v g ev eg (ap deliverable (sym b.own_is.sig) ∙ quiet.0))
 
 pub questions_answered : QuestionsAnswered
-questions_answered nodes rows p job own bag site a signals is =
+questions_answered nodes rows p job own bag site a signals =
     on_base_right nodes rows p job own bag site a (held_answer job own bag site p)
-    (λ v g b. first_right nodes rows p own bag site v g b.vproc b.group (coming own v g) job is signals a b refl)
+    (λ v g b. first_right nodes rows p own bag site v g b.vproc b.group (coming own v g) job signals a b refl)

@@ -3,7 +3,7 @@ use Rattle.std.specs.Prelude.{Option, None, Some}
 use Rattle.unix_names.specs.declared.Pid.{Pid}
 use Rattle.unix_names.specs.declared.NodeId.{NodeId}
 use Rattle.unix_calls.specs.declared.Call.{Call}
-use Rattle.unix_calls.specs.declared.Call.TheVariants.{Getpid, Getppid, Getpgid, Getsid, Fork, Exec, Exit, Waitpid, Kill, Setpgid, Action, Mask, Pending, Migrate}
+use Rattle.unix_calls.specs.declared.Call.TheVariants.{Getpid, Getppid, Getpgid, Getsid, Fork, Exec, Exit, Waitpid, Kill, Setpgid, Setsid, Action, Mask, Pending, Migrate}
 use Rattle.unix_calls.specs.declared.Event.{Event}
 use Rattle.unix_calls.specs.declared.Event.TheVariants.{EndedBy}
 use Rattle.unix_calls.specs.declared.Job.{Job}
@@ -28,13 +28,14 @@ use Rattle.ops_deliver.specs.Events.{EventEffect, event_answer}
 use Rattle.ops_deliver.specs.Decide as deliver
 
 -- ---- calls
--- what a call does that is done at any node, by the part that it belongs to; one of no part does nothing here
+-- what a call does that is done at any node, by the part that it belongs to; a fork and a migration have their own below
 abbrev pub call_effect : Call → CallEffect
 call_effect Getpid = groups.effect_of Getpid
 call_effect Getppid = groups.effect_of Getppid
 call_effect (Getpgid t) = groups.effect_of (Getpgid t)
 call_effect (Getsid t) = groups.effect_of (Getsid t)
 call_effect (Setpgid t q) = groups.effect_of (Setpgid t q)
+call_effect Setsid = groups.effect_of Setsid
 call_effect Exec = exit_wait.effect_of Exec
 call_effect (Exit n) = exit_wait.effect_of (Exit n)
 call_effect (Waitpid sel stopped continued) = exit_wait.effect_of (Waitpid sel stopped continued)

@@ -3,7 +3,7 @@
 
 ghost use Rattle.ops_vector.specs.Law.{QuestionsAnswered};
 
-/// Each question that fits, about a job decided here, is answered by a step of the one kernel, by asking for what lacks, or by the way to another node.
+/// Each question that fits is answered by a step of the one kernel, by asking for what lacks, or by the way to another node.
 pub fn answers_are_steps()
     ensures { QuestionsAnswered }
 {}
