@@ -12,7 +12,9 @@ use Rattle.byte_ends.specs.Text.{is_newline, lines, line_length, strip_return}
 use Rattle.byte_ends.proofs.Lines.{take-two, line_length-found}
 use Rattle.text_laws.proofs.Lines.{IsOneLine, lines-newline}
 use Rattle.file_parts.specs.declared.parts.Span.{Span}
-use Rattle.file_parts.specs.Parts.{Lines, IsPartOf, before, behind, stands_alone}
+use Rattle.byte_ends.specs.Text.{words}
+use Rattle.text_laws.proofs.Lengths.{not_first}
+use Rattle.file_parts.specs.Parts.{Lines, IsPartOf, before, behind, stands_alone, is_only}
 
 -- a text ends a line where the lines of what stands behind it come after its own
 abbrev pub EndsLine : List ℕ → Type 0
@@ -162,3 +164,12 @@ part-of bytes text n all test span e h f p =
     let P : Lines → Type 0 = λ ls. IsPartOf bytes (behind test ls) (2 + length (before test ls)) span in
     let Q : List ℕ → Type 0 = λ t. IsPartOf t (behind test (lines t)) (2 + length (before test (lines t))) span in
     subst P f (within-front bytes n (behind test (lines (take n bytes))) (2 + length (before test (lines (take n bytes)))) span h (subst Q e p))
+
+-- a word does not stand alone on a shorter line
+pub short_is_not : (word line : List ℕ) → length line < length word → is_only word line ≡ false
+short_is_not word line less = go (words line) refl
+  where
+    go : (ws : List (List ℕ)) → words line ≡ ws → stands_alone word ws ≡ false
+    go [] e = refl
+    go (first ∷ []) e = not_first line word first [] e less
+    go (first ∷ next ∷ rest) e = refl

@@ -75,11 +75,12 @@ fn divided(text: &[u8], word: &str) -> (usize, Option<Span>)
     (text.len(), None)
 }
 
-// Whether a line has one word, and it is a given one.
+// Whether a line has one word, and it is a given one; a line that is shorter than the word has not.
+#[tactic(auto, using(crate::proofs::Dividing::short_is_not))]
 fn is_only(line: &[u8], word: &str) -> bool
     ensures { result ≡ is_only word.now line.now }
 {
-    word_count(line) == 1 && has_all(line, word)
+    word.len() <= line.len() && word_count(line) == 1 && has_all(line, word)
 }
 
 fn is_blank(b: u8) -> bool

@@ -3,7 +3,8 @@ use Rattle.std.proofs.Common.{◌≡◌, ℕ, ◌+◌, ◌<◌, ◌≤◌, true,
 use Rattle.std.proofs.lemmas.List.{at_drop_more, at_drop_all, map-append, append-nil, take_more, drop_all}
 use Rattle.std.proofs.lemmas.List.Elements.{filter-append}
 use Rattle.byte_ends.specs.Text.{lines, words}
-use Rattle.script_words.specs.Words.{Word, Row, word_at}
+use Rattle.text_laws.proofs.Lengths.{not_first}
+use Rattle.script_words.specs.Words.{Word, Row, is_same, word_at}
 use Rattle.script_reader.specs.Names.{Table, noted}
 use Rattle.script_reader.specs.Files.{begins_with, words_behind, numbered, listed}
 
@@ -62,3 +63,14 @@ pub words-all : (first : Word) (at : ℕ) (text : List ℕ) (from : ℕ) (found 
 words-all first at text from found total end so_far =
     let none : drop from text ≡ [] = drop_all from text (omega (arith, end)) in
     sym (append-nil found) ∙ ap (λ (ws : List Word). found ++ ws) (sym (words_behind-none first at)) ∙ ap (λ (t : List ℕ). found ++ words_behind first at (map words (lines t))) (sym none) ∙ so_far
+
+begins_by : (first : Word) (line : List ℕ) → length line < length first → (row : Row) → words line ≡ row → is_same (word_at row 0) first ≡ false
+unfolding is_same word_at
+begins_by [] line less [] e = absurd (omega arith)
+begins_by (b ∷ first) line less [] e = refl
+begins_by first line less (word ∷ rest) e = not_first line first word rest e less
+
+-- a line that is shorter than a word gives nothing behind it
+pub short_gives_none : (first : Word) (at : ℕ) (line : List ℕ) → length line < length first → words_behind first at (words line ∷ []) ≡ []
+unfolding begins_with
+short_gives_none first at line less = words_behind-not first at (words line) (begins_by first line less (words line) refl)

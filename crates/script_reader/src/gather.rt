@@ -1,5 +1,5 @@
 // The names that the lines of a file give.
-ghost use Rattle.std.specs.Prelude.{◌≡◌, [], ◌∷◌, ◌++◌, ◌≤◌, map, length, IfOk, OnOk};
+ghost use Rattle.std.specs.Prelude.{◌≡◌, [], ◌∷◌, ◌++◌, ◌≤◌, map, length, codes, IfOk, OnOk};
 ghost use Rattle.byte_ends.specs.Text.{lines as lines_in, words as words_in};
 ghost use Rattle.script_reader.specs.Files.{begins_with, words_behind, numbered, listed, gather as gathered};
 
@@ -55,6 +55,34 @@ fn list<'a>(numbers: &mut Numbers<'a>, words: &[&'a [u8]]) -> Result<(), NoMemor
     Ok(())
 }
 
+// No line gives a name that is shorter than the shortest of the words that it would begin with.
+const SHORTEST: usize = 4;
+
+// Takes what a line gives. `words` is room for its words.
+#[tactic(auto, using(crate::proofs::Gathered::short_gives_none))]
+fn gather_line<'a>(
+    scripts: &mut Vec<&'a [u8]>,
+    forks: &mut Vec<&'a [u8]>,
+    starts: &mut Vec<&'a [u8]>,
+    words: &mut Vec<&'a [u8]>,
+    line: &'a [u8],
+) -> Result<(), NoMemory>
+    ensures scripts { OnOk result (map (λ w. w.now) scripts.new.items
+        ≡ map (λ w. w.now) scripts.old.items ++ words_behind (codes "script") 1 (words_in line.now ∷ [])) }
+    ensures forks { OnOk result (map (λ w. w.now) forks.new.items
+        ≡ map (λ w. w.now) forks.old.items ++ words_behind (codes "fork") 1 (words_in line.now ∷ [])) }
+    ensures starts { OnOk result (map (λ w. w.now) starts.new.items
+        ≡ map (λ w. w.now) starts.old.items ++ words_behind (codes "start") 3 (words_in line.now ∷ [])) }
+{
+    if line.len() < SHORTEST {
+        return Ok(());
+    }
+    take_words(words, line)?;
+    collect(scripts, words, "script", 1)?;
+    collect(forks, words, "fork", 1)?;
+    collect(starts, words, "start", 3)
+}
+
 /// The names that the lines of a text give.
 #[tactic(auto, unfolding(crate::specs::Files::gather))]
 pub fn gather<'a>(alloc: Global, text: &'a [u8]) -> Result<Names<'a>, NoMemory>
@@ -66,10 +94,13 @@ pub fn gather<'a>(alloc: Global, text: &'a [u8]) -> Result<Names<'a>, NoMemory>
     let mut words = Vec::new(alloc);
     let mut at = 0;
     while let Some((from, to, next)) = next_line(text, at) {
-        take_words(&mut words, &text[from..to])?;
-        collect(&mut scripts, &words, "script", 1)?;
-        collect(&mut forks, &words, "fork", 1)?;
-        collect(&mut starts, &words, "start", 3)?;
+        gather_line(
+            &mut scripts,
+            &mut forks,
+            &mut starts,
+            &mut words,
+            &text[from..to],
+        )?;
         at = next;
     }
     let mut variables = Numbers::new(alloc);

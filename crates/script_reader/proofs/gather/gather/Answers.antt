@@ -21,18 +21,14 @@ loop-from-preserved c =
     let next = c.in-Some.next in
     let line = slice_range text c.in-Some.from c.in-Some.to in
     let first : lines (drop at text) ≡ line ∷ lines (drop next text) = c.in-Some.ensures.line in
-    let taken : map (λ w. w.now) c.take_words.new.list.items ≡ words line = c.in_ok-take_words.ensures.words in
-    let row : map (λ w. w.now) c.deref.result.now ≡ words line = ap (map (λ w. w.now)) c.deref.ensures.value ∙ taken in
-    let row' : map (λ w. w.now) c.deref-in-Some.result.now ≡ words line = ap (map (λ w. w.now)) c.deref-in-Some.ensures.value ∙ taken in
-    let row'' : map (λ w. w.now) c.deref-in-Some-2.result.now ≡ words line = ap (map (λ w. w.now)) c.deref-in-Some-2.ensures.value ∙ taken in
     let scripts = map (λ w. w.now) c.loop-from.scripts.items in
     let forks = map (λ w. w.now) c.loop-from.forks.items in
     let starts = map (λ w. w.now) c.loop-from.starts.items in
     record {
       within = omega (arith, c.in-Some.ensures.order);
-      scripts = rw (c.in_ok-collect.ensures ∙ ap (λ (r : Row). scripts ++ words_behind (codes "script") 1 (r ∷ [])) row) (words-more (codes "script") 1 text at next line scripts (words_behind (codes "script") 1 (map words (lines text))) first c.loop-from.invariant.scripts);
-      forks = rw (c.in_ok-collect-2.ensures ∙ ap (λ (r : Row). forks ++ words_behind (codes "fork") 1 (r ∷ [])) row') (words-more (codes "fork") 1 text at next line forks (words_behind (codes "fork") 1 (map words (lines text))) first c.loop-from.invariant.forks);
-      starts = rw (c.in_ok-collect-3.ensures ∙ ap (λ (r : Row). starts ++ words_behind (codes "start") 3 (r ∷ [])) row'') (words-more (codes "start") 3 text at next line starts (words_behind (codes "start") 3 (map words (lines text))) first c.loop-from.invariant.starts);
+      scripts = rw c.in_ok-gather_line.ensures.scripts (words-more (codes "script") 1 text at next line scripts (words_behind (codes "script") 1 (map words (lines text))) first c.loop-from.invariant.scripts);
+      forks = rw c.in_ok-gather_line.ensures.forks (words-more (codes "fork") 1 text at next line forks (words_behind (codes "fork") 1 (map words (lines text))) first c.loop-from.invariant.forks);
+      starts = rw c.in_ok-gather_line.ensures.starts (words-more (codes "start") 3 text at next line starts (words_behind (codes "start") 3 (map words (lines text))) first c.loop-from.invariant.starts);
     }
 
 pub returns : goal.returns
@@ -45,10 +41,10 @@ returns c =
     let scripts : map (λ w. w.now) c.loop-from.scripts.items ≡ words_behind (codes "script") 1 rows = words-all (codes "script") 1 text at _ _ end c.loop-from.invariant.scripts in
     let forks : map (λ w. w.now) c.loop-from.forks.items ≡ words_behind (codes "fork") 1 rows = words-all (codes "fork") 1 text at _ _ end c.loop-from.invariant.forks in
     let starts : map (λ w. w.now) c.loop-from.starts.items ≡ words_behind (codes "start") 3 rows = words-all (codes "start") 3 text at _ _ end c.loop-from.invariant.starts in
-    let forks' : map (λ w. w.now) c.deref-2.result.now ≡ words_behind (codes "fork") 1 rows = ap (map (λ w. w.now)) c.deref-2.ensures.value ∙ forks in
-    let starts' : map (λ w. w.now) c.deref-3.result.now ≡ words_behind (codes "start") 3 rows = ap (map (λ w. w.now)) c.deref-3.ensures.value ∙ starts in
-    let scripts'' : map (λ w. w.now) c.deref-4.result.now ≡ words_behind (codes "script") 1 rows = ap (map (λ w. w.now)) c.deref-4.ensures.value ∙ scripts in
-    let starts'' : map (λ w. w.now) c.deref-5.result.now ≡ words_behind (codes "start") 3 rows = ap (map (λ w. w.now)) c.deref-5.ensures.value ∙ starts in
+    let forks' : map (λ w. w.now) c.deref.result.now ≡ words_behind (codes "fork") 1 rows = ap (map (λ w. w.now)) c.deref.ensures.value ∙ forks in
+    let starts' : map (λ w. w.now) c.deref-2.result.now ≡ words_behind (codes "start") 3 rows = ap (map (λ w. w.now)) c.deref-2.ensures.value ∙ starts in
+    let scripts'' : map (λ w. w.now) c.deref-3.result.now ≡ words_behind (codes "script") 1 rows = ap (map (λ w. w.now)) c.deref-3.ensures.value ∙ scripts in
+    let starts'' : map (λ w. w.now) c.deref-4.result.now ≡ words_behind (codes "start") 3 rows = ap (map (λ w. w.now)) c.deref-4.ensures.value ∙ starts in
     let first : c.list.new.numbers ≡ listed [] (words_behind (codes "fork") 1 rows) = cc (c.in_ok-list.ensures, c.new-variables.ensures, forks') in
     let second : c.list-2.new.numbers ≡ listed (listed [] (words_behind (codes "fork") 1 rows)) (words_behind (codes "start") 3 rows) = cc (c.in_ok-list-2.ensures, first, starts') in
     let third : c.in_ok-numbered.field-0 ≡ numbered [] 0 (words_behind (codes "script") 1 rows) = cc (c.in_ok-numbered.ensures, scripts'') in
