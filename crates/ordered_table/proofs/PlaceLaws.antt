@@ -5,7 +5,7 @@ use Rattle.unix_names.specs.declared.Pid.{Pid}
 use Rattle.ordered_table.specs.declared.entries.Entry.{Entry}
 use Rattle.ordered_table.specs.Entries.{pids_of, AllAbove, AllUpTo, IsRising}
 use Rattle.ordered_table.proofs.RisingLaws.{above-at}
-use Rattle.ordered_table.specs.Places.{place, IsFoundAt, IsVacantAt}
+use Rattle.ordered_table.specs.MethodPlaces.{place, IsFoundAt, IsVacantAt}
 
 found-later : {T : Type 0} (e : Entry T) (es : List (Entry T)) (p : Pid) (i : ℕ) → nat_lt e.pid.0 p.0 ≡ true → IsFoundAt es p i → IsFoundAt (e ∷ es) p (suc i)
 found-later e es p i less h = record {

@@ -1,5 +1,5 @@
 pub mod Entries
 pub mod Lists
-pub mod Places
+pub mod MethodPlaces
 pub mod Rising
 pub mod Sparse

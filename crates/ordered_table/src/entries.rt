@@ -2,7 +2,7 @@
 ghost use Rattle.std.specs.Prelude.{◌≡◌, ◌<◌, ◌∷◌, [], IfOk, IfErr, IfSome, IfNone, OnOk, OnErr, IsSome, IsOk, None, Some, length, slice_index_or, slice_set};
 ghost use Rattle.std.specs.List.{last_or};
 ghost use Rattle.ordered_table.specs.Entries.{value_at, with_value, without, pids_of, AllUpTo, AllAbove, IsRising, IsReplacedAt};
-ghost use Rattle.ordered_table.specs.Places.{place, IsFoundAt, IsVacantAt};
+ghost use Rattle.ordered_table.specs.MethodPlaces.{place, IsFoundAt, IsVacantAt};
 
 use std::alloc::AllocFailed;
 use std::mem;

@@ -1,7 +1,7 @@
 use Rattle.std.proofs.Common.{None, is_some, ap, subst, ◌∙◌}
 use Rattle.std.specs.Option.{option_flatten}
 use Rattle.ordered_table.specs.Entries.{without}
-use Rattle.ordered_table.specs.Places.{IsFoundAt}
+use Rattle.ordered_table.specs.MethodPlaces.{IsFoundAt}
 use Rattle.ordered_table.specs.Sparse.{present}
 use Rattle.ordered_table.proofs.SparseLaws.{value_at-present, present-empty}
 use Rattle.ordered_table.proofs.sparse.SparseTable.remove.Goals as goal

@@ -14,7 +14,7 @@ pub returns : goal.returns
 returns c rows known next rises = elim c.if-is_next.branch [
   | then-is_next w ↦
       let forgot = c.forget.ensures in
-      let joins = at_ok w.join.result _ (sym w.is_ok-self.ensures.value ∙ sym w.self2-is ∙ rises) w.join.ensures in
+      let joins = at_ok w.join.result _ (sym w.is_ok-self.ensures.value ∙ sym w.self2-is ∙ rises) w.join.ensures.ok in
       index-push c.args.self.now _ rows c.args.row.now (sym next ∙ w.if-is_next.true.1)
       (ap (λ (index : Index). index.children) w.self-is ∙ joins ∙ ap (λ (index : Index). joined c.args.row.now.parent c.args.row.now.pid index.children) forgot)
       (ap (λ (index : Index). index.orphaned) w.self-is ∙ ap (λ (index : Index). index.orphaned) forgot)
