@@ -15,3 +15,4 @@ pub mod Forms
 pub mod Leaders
 pub mod OrphanedGroups
 pub mod Coming
+pub mod Fresh

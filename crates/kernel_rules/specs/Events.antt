@@ -1,11 +1,11 @@
 -- when a process may call, what may happen to it without a call of its own, and what that changes (POSIX.1-2017, XSH 2.4)
-use Rattle.std.specs.Prelude.{◌==◌, ◌&&◌, ◌||◌, Bool, List, false, map, not, true}
+use Rattle.std.specs.Prelude.{◌≡◌, ◌==◌, ◌&&◌, ◌||◌, Bool, List, false, map, not, true}
 use Rattle.unix_names.specs.Sets.{has}
 use Rattle.unix_names.specs.Signals.{default_of, number_of}
 use Rattle.unix_names.specs.declared.DefaultAct.{DefaultAct}
 use Rattle.unix_names.specs.declared.DefaultAct.TheVariants.{End, StopIt}
 use Rattle.unix_names.specs.declared.Signal.{Signal}
-use Rattle.unix_names.specs.declared.Signal.TheVariants.{Stop, Tstp, Ttin, Ttou}
+use Rattle.unix_names.specs.declared.Signal.TheVariants.{Kill, Stop, Tstp, Ttin, Ttou}
 use Rattle.unix_names.specs.declared.WaitStatus.TheVariants as status
 use Rattle.unix_calls.specs.declared.Event.{Event}
 use Rattle.unix_calls.specs.declared.Event.TheVariants.{Caught, Continued, Discarded, EndedBy, Moved, StoppedBy}
@@ -20,6 +20,12 @@ use Rattle.kernel_rules.specs.Ending.{after_end, sent_by_end, sent_to_parent}
 -- the process is not stopped, and nothing is deliverable to it
 abbrev pub can_call : Row → Bool
 can_call r = not r.sig.stopped && (deliverable r.sig == 0)
+
+-- the process is stopped, and stays so: it isn't due to continue, and no KILL is pending
+pub record StaysStopped (r : Row) : Type 0 where
+  pub stopped : r.sig.stopped ≡ true
+  pub not_due : r.sig.due ≡ false
+  pub not_killed : has r.sig.pending Kill ≡ false
 
 -- ---- what a signal does, from the process's signals and whether its group is orphaned
 abbrev pub is_deliverable_in : Signals → Signal → Bool

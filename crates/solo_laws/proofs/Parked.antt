@@ -36,7 +36,8 @@ use Rattle.solo_core.specs.Machine.{told, stepped, stepped_by, groups_after, dec
 use Rattle.image_turns.specs.Turns.{in_phase, phase_after}
 use Rattle.solo_core.specs.Run.{with_entry}
 use Rattle.image_turns.specs.Ready.{is_stopped_phase}
-use Rattle.audit_core.specs.Finished.{StaysStopped, SleepsOn, last_call, later_call}
+use Rattle.audit_core.specs.Finished.{SleepsOn, last_call, later_call}
+use Rattle.kernel_rules.specs.Events.{StaysStopped}
 use Rattle.solo_laws.specs.Stands.{IsParkedPhase, IsImageOf, Stands}
 use Rattle.solo_laws.specs.Rests.{AreListed, Rests}
 use Rattle.solo_laws.proofs.Chosen.{IsJobOf, IsChosen, fresh_next, chosen_none}

@@ -22,7 +22,8 @@ use Rattle.kernel_laws.proofs.Rows.{row_pid}
 use Rattle.kernel_laws.proofs.Legal.{after_is}
 use Rattle.solo_core.specs.declared.played.Played.{Played}
 use Rattle.solo_core.specs.Machine.{Groups, members_of, told, groups_after}
-use Rattle.audit_core.specs.Finished.{StaysStopped, SleepsOn, last_call}
+use Rattle.audit_core.specs.Finished.{SleepsOn, last_call}
+use Rattle.kernel_rules.specs.Events.{StaysStopped}
 use Rattle.solo_laws.specs.Stands.{Stands}
 use Rattle.solo_laws.specs.Rests.{AreListed}
 use Rattle.solo_laws.proofs.Chosen.{IsChosen, chosen_number}

@@ -37,7 +37,8 @@ use Rattle.kernel_laws.proofs.Others.{came_received_at}
 use Rattle.kernel_choice.specs.Choice.{first_event, event_of, least_deliverable}
 use Rattle.kernel_choice.proofs.EventLaws.{none_chosen}
 use Rattle.solo_core.specs.Machine.{asked, happened_or, chosen}
-use Rattle.audit_core.specs.Finished.{StaysStopped, is_born, later_call, last_call}
+use Rattle.audit_core.specs.Finished.{is_born, later_call, last_call}
+use Rattle.kernel_rules.specs.Events.{StaysStopped}
 use Rattle.history_laws.proofs.Progress.{IsNoForkOf}
 
 -- ---- a kill that can't be taken isn't pending

@@ -8,7 +8,8 @@ use Rattle.process_table.specs.declared.Row.{Row}
 use Rattle.process_table.specs.Rows.{row_of, is_among}
 use Rattle.solo_core.specs.declared.played.Played.{Played}
 use Rattle.solo_core.specs.Machine.{Groups, members_of}
-use Rattle.audit_core.specs.Finished.{StaysStopped, SleepsOn}
+use Rattle.audit_core.specs.Finished.{SleepsOn}
+use Rattle.kernel_rules.specs.Events.{StaysStopped}
 
 -- each row's process is listed in its group
 abbrev pub AreListed : List Row → Groups → Type 0
