@@ -39,7 +39,7 @@ use Rattle.decide_law.specs.Law.{Settled, next, sent_to, IsLegalOf, IsAnswerTo, 
 use Rattle.decide_law.specs.Places.{place_after, is_placed, destination}
 use Rattle.decide_law.specs.Effects.{only, same, changed, told_to, append, decided_by, written}
 use Rattle.decide_law.proofs.Records.{pid_same, row_pid, only_keeps}
-use Rattle.audit_core.specs.Finished.{StaysStopped}
+use Rattle.kernel_rules.specs.Events.{StaysStopped}
 use Rattle.decide_law.proofs.Phases.{lives_on}
 use Rattle.decide_law.proofs.Shell.{own_record, group_is}
 use Rattle.decide_law.proofs.Changes.{vproc_changed, group_changed, names_changed, agrees_changed, only_at_same, only_at_other}
@@ -98,7 +98,7 @@ told_agrees rows id e None a = a
 told_agrees rows id e (Some g) a = (a.0, told_group rows id g e a.1)
 
 -- where a member begins is within the log
-from_found : (n q : ℕ) (ms : List Member) → All (λ m. m.from ≤ n) ms → from_in (at member_number q ms) ≤ n
+pub from_found : (n q : ℕ) (ms : List Member) → All (λ m. m.from ≤ n) ms → from_in (at member_number q ms) ≤ n
 from_found n q [] a = omega arith
 from_found n q (m ∷ ms) a = go (m.pid.0 == q) (from_found n q ms (All-tail (λ m. m.from ≤ n) m ms a)) (All-head (λ m. m.from ≤ n) m ms a)
   where

@@ -23,8 +23,12 @@ pub mod Plain
 pub mod PlainStep
 pub mod Tables
 pub mod PutBack
+pub mod Appended
+pub mod SettledGroups
 pub mod AppendStep
 pub mod SettledFootprints
 pub mod Needed
 pub mod FirstEvent
 pub mod Arrivals
+pub mod ComingFirst
+pub mod Fitting

@@ -27,7 +27,7 @@ use Rattle.decide_law.specs.Law.{Settled, next, sent_to, IsLegalOf, IsAnswerTo, 
 use Rattle.decide_law.specs.Places.{place_after, is_placed, destination}
 use Rattle.decide_law.specs.Effects.{only, same, changed, plain, decided_by, written}
 use Rattle.decide_law.proofs.Records.{pid_same, only_other}
-use Rattle.audit_core.specs.Finished.{StaysStopped}
+use Rattle.kernel_rules.specs.Events.{StaysStopped}
 use Rattle.decide_law.proofs.Phases.{lives_on}
 use Rattle.decide_law.proofs.Changes.{vproc_changed, group_changed, names_changed, agrees_changed, only_at_same, only_at_other}
 use Rattle.decide_law.proofs.Quiet.{same_at}

@@ -32,7 +32,7 @@ use Rattle.decide_law.specs.Agrees.{vproc_at, group_at}
 use Rattle.decide_law.specs.Law.{Settled, next, sent_to, IsLegalOf, IsAnswerTo, IsNoBirth, IsStep}
 use Rattle.decide_law.specs.Places.{place_after, is_placed, destination}
 use Rattle.decide_law.specs.Effects.{same, changed, quiet, decided_by, written}
-use Rattle.audit_core.specs.Finished.{StaysStopped}
+use Rattle.kernel_rules.specs.Events.{StaysStopped}
 use Rattle.decide_law.proofs.Phases.{lives_on}
 use Rattle.decide_law.proofs.Changes.{vproc_changed, group_changed, names_changed, agrees_changed}
 use Rattle.decide_law.specs.Nudges.{nudges_of}

@@ -8,6 +8,7 @@ use Rattle.unix_calls.specs.declared.Call.{Call}
 use Rattle.unix_calls.specs.declared.Reply.{Reply}
 use Rattle.unix_calls.specs.declared.Reply.TheVariants.{Refused}
 use Rattle.unix_names.specs.declared.Errno.{Errno}
+use Rattle.unix_names.specs.declared.Signal.{Signal}
 use Rattle.unix_calls.specs.declared.Phase.{Phase}
 use Rattle.unix_calls.specs.declared.Phase.TheVariants as phase
 use Rattle.signal_state.specs.Signals.{Signals}
@@ -17,6 +18,7 @@ use Rattle.vproc_record.specs.declared.Vproc.{Vproc}
 use Rattle.group_record.specs.declared.Member.{Member}
 use Rattle.group_record.specs.declared.Group.{Group}
 use Rattle.group_record.specs.declared.LogEntry.{LogEntry}
+use Rattle.group_record.specs.declared.Allow.TheVariants.{All}
 use Rattle.group_record.specs.Groups.{settled, trimmed, with_entry}
 use Rattle.sig_stream.specs.Streams.{tail}
 use Rattle.ordered_table.specs.Entries.{with_each}
@@ -26,6 +28,15 @@ use Rattle.record_bag.specs.declared.vector.Outcome.TheVariants as outcome
 use Rattle.record_bag.specs.Decisions.{Answered, answered}
 use Rattle.record_bag.specs.Bags.{vproc_in, group_in}
 use Rattle.unix_names.specs.declared.Name.TheVariants.{V, G}
+
+-- ---- signals
+-- a signal to one process, whoever may send it
+abbrev pub to_one : Signal → Pid → LogEntry
+to_one s q = record { signal = s; target = Some q; allow = All }
+
+-- a signal to each member of a group
+abbrev pub to_all : Signal → LogEntry
+to_all s = record { signal = s; target = None; allow = All }
 
 -- ---- changes of what is held
 -- a change of what is held under one id

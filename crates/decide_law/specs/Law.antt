@@ -3,6 +3,7 @@ use Rattle.std.specs.Prelude.{ℕ, Bool, true, false, ◌≡◌, ◌≢◌, ◌�
 use Rattle.unix_names.specs.declared.Pid.{Pid}
 use Rattle.unix_names.specs.declared.NodeId.{NodeId}
 use Rattle.unix_names.specs.declared.Signal.{Signal}
+use Rattle.unix_names.specs.Sets.{IsSignals}
 use Rattle.unix_names.specs.States.{is_living}
 use Rattle.unix_calls.specs.declared.Call.{Call}
 use Rattle.unix_calls.specs.declared.Call.TheVariants.{Fork}
@@ -30,7 +31,7 @@ use Rattle.kernel_model.specs.declared.Verdict.TheVariants.{Legal}
 use Rattle.kernel_model.specs.Sound.{IsSound}
 use Rattle.kernel_model.specs.Step.{process_of, verdict, after, sent}
 use Rattle.kernel_laws.specs.Effects.{IsUnused}
-use Rattle.audit_core.specs.Finished.{StaysStopped}
+use Rattle.kernel_rules.specs.Events.{StaysStopped}
 use Rattle.decide_law.specs.Wakes.{is_nudged, WakesOthers}
 use Rattle.decide_law.specs.Nudges.{nudges_of}
 use Rattle.decide_law.specs.Places.{destination, JobGoes, is_placed, place_after}
@@ -53,6 +54,8 @@ pub record Asks (nodes : ℕ) (rows : List Row) (p : Pid) (job : Job) (own : Own
   pub row : Row
   pub there : row_of rows p ≡ Some row
   pub living : is_living row.life ≡ true
+  -- what is pending for it is a set of signals, with no number beside theirs
+  pub pending : IsSignals row.sig.pending
   -- it looks exactly while it is stopped
   pub looks : is_stopped row.life ≡ true → job ≡ Look
   pub calls : is_stopped row.life ≡ false → job ≢ Look

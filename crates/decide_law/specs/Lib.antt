@@ -13,4 +13,5 @@ pub mod Base
 pub mod Answer
 pub mod Parts
 pub mod MethodNeeds
+pub mod MethodAppend
 pub mod Arrivals

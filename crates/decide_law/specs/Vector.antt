@@ -52,6 +52,12 @@ IsAnswer nodes rows p job site bag left (Done d) = IsStep rows (next rows d.entr
 IsAnswer nodes rows p job site bag left (Need names) = IsAskedFor rows p job bag names × (left ≡ bag)
 IsAnswer nodes rows p job site bag left (Away k) = (k.0 < nodes) × (left ≡ bag) × IsAway rows p job site bag k
 
--- each question that fits is answered so
+-- a question fits: some table, on so many nodes, stands behind it
+pub record Fits (p : Pid) (job : Job) (own : Own) (bag : Bag) (site : Site) : Type 0 where
+  pub nodes : ℕ
+  pub rows : List Row
+  pub asks : Asks nodes rows p job own bag site
+
+-- each question is answered so
 pub record IsVector (nodes : ℕ) (ask : Pid → Job → Own → Bag → Site → Answered) : Type 0 where
   pub answers : (rows : List Row) (p : Pid) (job : Job) (own : Own) (bag : Bag) (site : Site) → Asks nodes rows p job own bag site → IsAnswer nodes rows p job site bag (ask p job own bag site).bag (ask p job own bag site).outcome

@@ -1,10 +1,10 @@
 // The names that a decision needs and that are not held.
-ghost use Rattle.std.specs.Prelude.{◌≡◌, ◌∷◌, [], slice_get, OnOk, OnErr};
-ghost use Rattle.decide_law.specs.Footprints.{with_name, is_none};
+ghost use Rattle.std.specs.Prelude.{◌≡◌, ◌∷◌, [], slice_get, flat_map, OnOk, OnErr};
+ghost use Rattle.decide_law.specs.Footprints.{with_name, is_none, with_living_group};
 ghost use Rattle.decide_law.specs.MethodNeeds.{passed, not_before, wanted};
 
 use record_bag::Bag;
-use unix_names::{Name, NoMemory, Seq, is_before};
+use unix_names::{Name, NoMemory, Pid, Seq, is_before, is_living};
 
 // How many of the first names come before this one.
 fn passed(names: &[Name], name: Name) -> usize
@@ -51,6 +51,31 @@ pub fn want(names: &mut Seq<Name>, bag: &Bag, name: Name) -> Result<(), NoMemory
     } else {
         add(names, name)
     }
+}
+
+/// The same of a process and, once its record tells that it lives, of its group. After NoMemory some of them may stand among the names.
+pub fn want_living_group(names: &mut Seq<Name>, bag: &Bag, pid: Pid) -> Result<(), NoMemory>
+    ensures { OnOk result (names.new ≡ wanted bag.now (with_living_group bag.now pid) names.old) }
+{
+    want(names, bag, Name::V(pid))?;
+    match bag.vproc(pid) {
+        Some(v) if is_living(v.life) => want(names, bag, Name::G(v.group)),
+        _ => Ok(()),
+    }
+}
+
+/// The same of each of these processes. After NoMemory some of the names may stand among the others.
+pub fn want_living_children(
+    names: &mut Seq<Name>,
+    bag: &Bag,
+    children: &[Pid],
+) -> Result<(), NoMemory>
+    ensures { OnOk result (names.new ≡ wanted bag.now (flat_map (with_living_group bag.now) children.now) names.old) }
+{
+    for child in children {
+        want_living_group(names, bag, *child)?;
+    }
+    Ok(())
 }
 
 /// Whether no name is needed.

@@ -103,6 +103,30 @@ pub fn finish(
     })
 }
 
+/// The same of a decision that nudges these processes. It takes no memory.
+pub fn finish_with(
+    nudges: Seq<Pid>,
+    own: Own,
+    group: Pid,
+    bag: &mut Bag,
+    entry: Option<Entry>,
+    phase: Phase,
+) -> Outcome
+    requires held { IsSome (group_at bag.old group) }
+    requires within { (g : TheGroup) → group_at bag.old group ≡ Some (Some g) → All (λ m. m.from ≤ length g.log) g.members }
+    ensures outcome { result ≡ Done (record { entry = entry; own = own; phase = phase; born = None; nudges = nudges }) }
+    ensures bag { bag.new ≡ trimmed_in group bag.old }
+{
+    trim_in(group, bag);
+    Outcome::Done(Decided {
+        entry,
+        own,
+        phase,
+        born: None,
+        nudges,
+    })
+}
+
 /// The answer of a decision that writes nothing: the process takes in its tail and is settled, and its group is trimmed. It takes no memory.
 pub fn done_quiet(
     alloc: Global,
