@@ -7,35 +7,24 @@ use Rattle.unix_names.specs.Names.{pid_of}
 use Rattle.unix_calls.specs.declared.Event.{Event}
 use Rattle.unix_calls.specs.declared.Event.TheVariants.{Caught, Discarded, StoppedBy, EndedBy, Continued, Moved}
 use Rattle.unix_calls.specs.declared.Job.{Job}
-use Rattle.signal_state.specs.declared.Own.{Own}
 use Rattle.vproc_record.specs.declared.Vproc.{Vproc}
-use Rattle.group_record.specs.declared.Group.{Group}
 use Rattle.group_record.specs.Groups.{settled}
 use Rattle.record_bag.specs.declared.bag.Bag.{Bag}
 use Rattle.process_table.specs.declared.Row.{Row}
-use Rattle.process_table.specs.Orphans.{is_orphaned}
 use Rattle.kernel_rules.specs.Events.{is_stop_signal}
-use Rattle.kernel_choice.specs.Choice.{first_event}
 use Rattle.decide_law.specs.Agrees.{Agrees}
 use Rattle.decide_law.specs.Law.{Based}
 use Rattle.decide_law.specs.Needs.{IsNamed, AreTold}
 use Rattle.decide_law.specs.Effects.{folded, emptied, settled_in}
-use Rattle.decide_law.specs.Told.{event_told}
-use Rattle.decide_law.specs.Footprints.{parent_footprint, event_footprint, coming}
+use Rattle.decide_law.specs.Footprints.{parent_footprint, event_footprint}
 use Rattle.decide_law.specs.Parts.{EachHeld}
 use Rattle.decide_law.proofs.Answers.{based, right_answers}
-use Rattle.decide_law.proofs.FirstEvent.{orphaned_told, told_event}
+use Rattle.decide_law.proofs.ComingFirst.{coming_first}
 use Rattle.decide_law.proofs.PartRight.{right_step}
 use Rattle.decide_law.proofs.SettledFootprints.{parent_footprint_same, end_footprint_same}
-use Rattle.decide_law.proofs.Shell.{own_record, group_is, settling}
+use Rattle.decide_law.proofs.Shell.{settling}
 use Rattle.decide_law.proofs.ToldFootprints.{Known, known, parent_told, end_told}
 use Rattle.ops_deliver.specs.Events.{EventEffect, IsEventStep, event_answer, IsEventAnswered}
-
--- the event that the records tell is the one that comes first
-pub coming_first : (rows : List Row) (p : Pid) (own : Own) (bag : Bag) (r : Row) (v : Vproc) (g : Group) → Based rows p own bag r v g → coming own v g ≡ first_event rows r
-coming_first rows p own bag r v g a =
-    ap (λ (b : Bool). event_told b (folded own v g).sig) (orphaned_told rows v.group g (group_is rows bag v.group g a.agrees a.group) ∙ ap (is_orphaned rows) (own_record rows p bag r v a.agrees a.row a.vproc).group)
-    ∙ ap (event_told (is_orphaned rows r.group)) (sym a.own_is.sig) ∙ told_event rows r
 
 -- ---- the footprint
 -- it is the same before and after settling

@@ -1,19 +1,17 @@
 -- what is held of a process and its parent, and a log that grows
-use Rattle.std.proofs.Common.{◌≡◌, ◌==◌, ◌++◌, ◌≤◌, ℕ, Bool, true, false, cond, List, [], ◌∷◌, length, length-append, refl, sym, ap, ◌∙◌, subst, arith, Option, None, Some, inl, inr, ◌⊎◌}
-use Rattle.std.specs.Prelude.{map, filter, All, is_some}
+use Rattle.std.proofs.Common.{◌≡◌, ◌==◌, ◌++◌, ◌≤◌, ℕ, Bool, true, false, List, [], ◌∷◌, length, length-append, refl, sym, ap, ◌∙◌, subst, arith, Option, None, Some, inl, inr, ◌⊎◌}
+use Rattle.std.specs.Prelude.{map, filter, is_some}
 use Rattle.std.proofs.lemmas.Bool.{eqb-true, eqb-false, ne_eqb, eq-eqb}
 use Rattle.std.proofs.lemmas.List.{map-append, drop-append-le}
-use Rattle.std.proofs.lemmas.List.Elements.{filter-append, All-head, All-tail}
-use Rattle.list_laws.specs.Keyed.{at}
+use Rattle.std.proofs.lemmas.List.Elements.{filter-append}
 use Rattle.unix_names.specs.declared.Pid.{Pid}
 use Rattle.unix_names.specs.declared.Signal.{Signal}
 use Rattle.signal_state.specs.Signals.{Signals}
 use Rattle.signal_state.specs.Sig.{generated, generated_all}
 use Rattle.vproc_record.specs.declared.Vproc.{Vproc}
-use Rattle.group_record.specs.declared.Member.{Member}
 use Rattle.group_record.specs.declared.LogEntry.{LogEntry}
 use Rattle.group_record.specs.declared.Group.{Group}
-use Rattle.group_record.specs.Members.{member_number, from_in, from_of}
+use Rattle.group_record.specs.Members.{from_of}
 use Rattle.group_record.specs.Log.{concerns, log_part}
 use Rattle.record_bag.specs.declared.bag.Bag.{Bag}
 use Rattle.record_bag.specs.Bags.{present, vproc_in}
@@ -56,15 +54,6 @@ ignored_all x (s ∷ ss) = ignored_all (generated x s) ss
 
 pub longer : (n : ℕ) (l m : List LogEntry) → n ≤ length l → n ≤ length (l ++ m)
 longer n l m h = simp length-append (omega arith)
-
--- where a member begins is within the log
-pub from_found : (n q : ℕ) (ms : List Member) → All (λ m. m.from ≤ n) ms → from_in (at member_number q ms) ≤ n
-from_found n q [] a = omega arith
-from_found n q (m ∷ ms) a = go (m.pid.0 == q) (from_found n q ms (All-tail (λ m. m.from ≤ n) m ms a)) (All-head (λ m. m.from ≤ n) m ms a)
-  where
-    go : (b : Bool) → from_in (at member_number q ms) ≤ n → m.from ≤ n → from_in (cond b (Some m) (at member_number q ms)) ≤ n
-    go true rest here = here
-    go false rest here = rest
 
 -- the part of a log that grew, where the member's beginning stays
 pub part_grown : (p : Pid) (uid : ℕ) (g g' : Group) (new : List LogEntry) → g'.log ≡ g.log ++ new → from_of g'.members p ≡ from_of g.members p → from_of g.members p ≤ length g.log →

@@ -5,3 +5,4 @@ pub mod TurnedRows
 pub mod Turned
 pub mod Stops
 pub mod Steps
+pub mod TurnCode

@@ -22,7 +22,7 @@ use Rattle.process_table.specs.declared.Row.{Row}
 use Rattle.kernel_rules.specs.Events.{is_deliverable}
 use Rattle.kernel_model.specs.Step.{verdict_at, after_at, sent_at}
 use Rattle.kernel_choice.specs.Choice.{event_of, least_deliverable, first_event}
-use Rattle.audit_core.specs.Finished.{StaysStopped}
+use Rattle.kernel_rules.specs.Events.{StaysStopped}
 use Rattle.decide_law.specs.Law.{Settled}
 use Rattle.decide_law.proofs.Stopped.{unkilled}
 use Rattle.ops_deliver.specs.Events.{IsEventStep}

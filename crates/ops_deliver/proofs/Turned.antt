@@ -36,7 +36,7 @@ use Rattle.process_table.specs.Changes.{received}
 use Rattle.kernel_model.specs.declared.Verdict.TheVariants.{Legal}
 use Rattle.kernel_model.specs.Sound.{IsSound}
 use Rattle.kernel_model.specs.Step.{process_of, verdict, after, sent}
-use Rattle.audit_core.specs.Finished.{StaysStopped}
+use Rattle.kernel_rules.specs.Events.{StaysStopped}
 use Rattle.kernel_rules.specs.Ending.{sent_to_parent}
 use Rattle.decide_law.specs.Agrees.{vproc_at, group_at, stopped_in, IsRecordOf, VprocAgrees, VprocsAgree, IsGroupOf, GroupAgrees, Agrees}
 use Rattle.decide_law.specs.Counts.{passes, is_stopped_to}
@@ -46,14 +46,15 @@ use Rattle.decide_law.specs.Places.{is_placed, place_after}
 use Rattle.decide_law.specs.Footprints.{with_group, parent_footprint}
 use Rattle.decide_law.specs.Parts.{EachHeld}
 use Rattle.decide_law.specs.Law.{Settled, next, IsAnswerTo, IsNoBirth, IsStep}
-use Rattle.decide_law.specs.Effects.{only, same, changed, Effect, decided_by, written}
+use Rattle.decide_law.specs.Effects.{only, same, changed, to_one, Effect, decided_by, written}
 use Rattle.decide_law.proofs.Records.{number, distinct, pid_same, row_pid, row_own, only_other}
 use Rattle.decide_law.proofs.Counts.{no_system, recount, passes_stopped}
 use Rattle.decide_law.proofs.Phases.{lives_on}
 use Rattle.decide_law.proofs.Shell.{own_record, group_is}
 use Rattle.decide_law.proofs.Changes.{vproc_changed, group_changed, names_changed, agrees_changed, only_at_same, only_at_other}
-use Rattle.ops_deliver.proofs.Grown.{HoldsBoth, both_held, in_other, longer, from_found, part_grown, flip}
-use Rattle.ops_deliver.specs.Turn.{to_one, turned_vproc, turned_vprocs, parent_entries, turned_group, turned_groups, turn_by}
+use Rattle.decide_law.proofs.AppendStep.{from_found}
+use Rattle.ops_deliver.proofs.Grown.{HoldsBoth, both_held, in_other, longer, part_grown, flip}
+use Rattle.ops_deliver.specs.Turn.{turned_vproc, turned_vprocs, parent_entries, turned_group, turned_groups, turn_by}
 use Rattle.ops_deliver.proofs.TurnedRows.{turned_at, turn, turned_rows, turned_is, row_turn, here_turn, comes_turn, uid_turn, links_turn, vproc_turn, own_count, sum}
 
 -- the entry is such a change of the process of row r

@@ -17,11 +17,10 @@ use Rattle.signal_state.specs.Signals.{Signals}
 use Rattle.signal_state.specs.Sig.{stopped_by, resumed}
 use Rattle.vproc_record.specs.declared.Vproc.{Vproc}
 use Rattle.group_record.specs.declared.LogEntry.{LogEntry}
-use Rattle.group_record.specs.declared.Allow.TheVariants.{All}
 use Rattle.group_record.specs.declared.Group.{Group}
 use Rattle.record_bag.specs.declared.bag.Bag.{Bag}
 use Rattle.record_bag.specs.Bags.{vproc_in}
-use Rattle.decide_law.specs.Effects.{only, changed, same, Effect}
+use Rattle.decide_law.specs.Effects.{only, changed, same, to_one, Effect}
 use Rattle.decide_law.specs.Counts.{passes, recounted}
 use Rattle.ops_deliver.specs.Events.{EventEffect}
 
@@ -31,10 +30,6 @@ turned_vproc l w v = record v { life = l; change = Some w }
 
 abbrev pub turned_vprocs : Bag → Pid → Life → WaitStatus → Bag
 turned_vprocs bag p l w = changed (only p (option_map (turned_vproc l w))) same bag
-
--- a signal to one process, whoever it is
-abbrev pub to_one : Signal → Pid → LogEntry
-to_one s q = record { signal = s; target = Some q; allow = All }
 
 -- the log of the parent's group gets its signal
 abbrev pub parent_entries : Bag → Pid → Pid → List LogEntry

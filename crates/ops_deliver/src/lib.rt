@@ -3,6 +3,13 @@
 
 ghost use Rattle.ops_deliver.specs.Decide.{EventsAnswered};
 
+mod deliver;
+mod parent;
+mod taking;
+mod turn;
+
+pub use deliver::deliver_part;
+
 /// Each event of this part is answered by a step of the one kernel, or by asking for what lacks.
 pub fn events_are_steps()
     ensures { EventsAnswered }

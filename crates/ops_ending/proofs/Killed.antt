@@ -1,5 +1,5 @@
 -- the end by a signal is a step, or asks for what its footprint lacks
-use Rattle.std.proofs.Common.{◌≡◌, Bool, List, refl, sym, ap, ◌∙◌, subst, Some}
+use Rattle.std.proofs.Common.{◌≡◌, List, refl, sym, ap, ◌∙◌, subst, Some}
 use Rattle.unix_names.specs.declared.Pid.{Pid}
 use Rattle.unix_names.specs.declared.Signal.{Signal}
 use Rattle.unix_names.specs.declared.WaitStatus.TheVariants as status
@@ -7,25 +7,22 @@ use Rattle.unix_calls.specs.declared.Event.TheVariants.{EndedBy}
 use Rattle.unix_calls.specs.declared.Entry.TheVariants.{Happened}
 use Rattle.unix_calls.specs.declared.Job.{Job}
 use Rattle.signal_state.specs.Signals.{Signals}
-use Rattle.signal_state.specs.declared.Own.{Own}
 use Rattle.vproc_record.specs.declared.Vproc.{Vproc}
 use Rattle.group_record.specs.declared.Group.{Group}
 use Rattle.group_record.specs.Groups.{settled}
 use Rattle.record_bag.specs.declared.bag.Bag.{Bag}
 use Rattle.process_table.specs.declared.Row.{Row}
-use Rattle.process_table.specs.Orphans.{is_orphaned}
 use Rattle.kernel_choice.specs.Choice.{first_event}
 use Rattle.kernel_choice.proofs.EventLaws.{chosen_may_happen}
 use Rattle.kernel_model.specs.Step.{verdict_at, after_at, sent_at}
-use Rattle.decide_law.specs.Law.{Based, Settled}
+use Rattle.decide_law.specs.Law.{Settled}
 use Rattle.decide_law.specs.Effects.{folded, emptied, settled_in}
-use Rattle.decide_law.specs.Told.{event_told}
-use Rattle.decide_law.specs.Footprints.{end_footprint, coming}
+use Rattle.decide_law.specs.Footprints.{end_footprint}
 use Rattle.decide_law.specs.Parts.{EachHeld}
-use Rattle.decide_law.proofs.FirstEvent.{orphaned_told, told_event}
 use Rattle.decide_law.proofs.PartRight.{right_step}
 use Rattle.decide_law.proofs.SettledFootprints.{end_footprint_same}
-use Rattle.decide_law.proofs.Shell.{own_record, group_is, settling}
+use Rattle.decide_law.proofs.ComingFirst.{coming_first}
+use Rattle.decide_law.proofs.Shell.{settling}
 use Rattle.ops_ending.specs.Ending.{killed_effect}
 use Rattle.ops_ending.specs.Laws.{KilledIsRight}
 use Rattle.ops_ending.proofs.Kin.{IsEnding}
@@ -44,12 +41,6 @@ killed_is rows p job sig bag r v g s a e = record {
   nudges = λ now before left. refl;
   born = tt;
 }
-
--- the event that the records tell is the one that comes first
-pub coming_first : (rows : List Row) (p : Pid) (own : Own) (bag : Bag) (r : Row) (v : Vproc) (g : Group) → Based rows p own bag r v g → coming own v g ≡ first_event rows r
-coming_first rows p own bag r v g a =
-    ap (λ (b : Bool). event_told b (folded own v g).sig) (orphaned_told rows v.group g (group_is rows bag v.group g a.agrees a.group) ∙ ap (is_orphaned rows) (own_record rows p bag r v a.agrees a.row a.vproc).group)
-    ∙ ap (event_told (is_orphaned rows r.group)) (sym a.own_is.sig) ∙ told_event rows r
 
 pub killed_is_right : KilledIsRight
 killed_is_right rows p job site own bag r v g s a e =

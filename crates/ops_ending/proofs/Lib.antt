@@ -8,3 +8,6 @@ pub mod Nudges
 pub mod Whole
 pub mod Steps
 pub mod Killed
+pub mod BuiltTables
+pub mod EndCode
+pub mod EndParts

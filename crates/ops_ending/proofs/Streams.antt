@@ -1,11 +1,11 @@
 -- what the end of a process sends, in logs
-use Rattle.std.proofs.Common.{◌≡◌, ◌==◌, ◌&&◌, ◌++◌, ◌≤◌, ℕ, Bool, true, false, cond, not, List, [], ◌∷◌, length, refl, sym, ap, ◌∙◌, subst, arith, Option, None, Some, inl, inr, ◌⊎◌}
-use Rattle.std.specs.Prelude.{map, filter, All}
+use Rattle.std.proofs.Common.{◌≡◌, ◌==◌, ◌&&◌, ◌++◌, ◌≤◌, ℕ, Bool, true, false, cond, not, List, [], ◌∷◌, length, refl, sym, ap, ◌∙◌, subst, Option, None, Some, inl, inr, ◌⊎◌}
+use Rattle.std.specs.Prelude.{map, filter}
 use Rattle.std.specs.List.{list_any}
 use Rattle.std.specs.Option.{option_map}
 use Rattle.std.proofs.lemmas.Bool.{eqb-true, eqb-false, ne_eqb, eq-eqb}
 use Rattle.std.proofs.lemmas.List.{map-append, drop-append-le}
-use Rattle.std.proofs.lemmas.List.Elements.{filter-append, All-head, All-tail}
+use Rattle.std.proofs.lemmas.List.Elements.{filter-append}
 use Rattle.list_laws.specs.Keyed.{at, option_filter}
 use Rattle.list_laws.proofs.Finding.{at-filter, found, same_number}
 use Rattle.list_laws.proofs.Counts.{any-count}
@@ -28,25 +28,17 @@ use Rattle.kernel_rules.specs.Ending.{vanishes, rows_left, sent_by_end}
 use Rattle.kernel_laws.proofs.Ends.{is_left, after_end_of}
 use Rattle.decide_law.specs.Agrees.{group_at, children_of, IsGroupOf}
 use Rattle.decide_law.specs.Counts.{passes}
-use Rattle.decide_law.specs.Effects.{changed, regroups}
+use Rattle.decide_law.proofs.AppendStep.{from_found}
+use Rattle.decide_law.specs.Effects.{changed, regroups, to_one, to_all}
 use Rattle.decide_law.proofs.Records.{pid_same, row_pid, row_own, member_has}
 use Rattle.decide_law.proofs.Groups.{unless_empty_some}
 use Rattle.decide_law.proofs.Shell.{own_record, group_is}
 use Rattle.decide_law.proofs.Changes.{group_changed}
-use Rattle.ops_ending.specs.Ending.{goes, is_newly, to_all, to_one, end_entries, left_members, left_group}
+use Rattle.ops_ending.specs.Ending.{goes, is_newly, end_entries, left_members, left_group}
 use Rattle.ops_ending.proofs.Kin.{HoldsBoth}
 use Rattle.ops_ending.proofs.Vprocs.{left_rows, row_left}
 use Rattle.ops_ending.proofs.Groups.{IsEnd, gone_same, group_after, group_left, newly_is, links_first}
 use Rattle.ops_ending.proofs.Elsewhere.{links_out, both_out}
-
--- where a member begins is within the log
-from_found : (n q : ℕ) (ms : List Member) → All (λ m. m.from ≤ n) ms → from_in (at member_number q ms) ≤ n
-from_found n q [] a = omega arith
-from_found n q (m ∷ ms) a = go (m.pid.0 == q) (from_found n q ms (All-tail (λ m. m.from ≤ n) m ms a)) (All-head (λ m. m.from ≤ n) m ms a)
-  where
-    go : (b : Bool) → from_in (at member_number q ms) ≤ n → m.from ≤ n → from_in (cond b (Some m) (at member_number q ms)) ≤ n
-    go true rest here = here
-    go false rest here = rest
 
 -- the part of a log that grew, where the member's beginning stays
 part_grown : (p : Pid) (uid : ℕ) (g g' : Group) (new : List LogEntry) → g'.log ≡ g.log ++ new → from_of g'.members p ≡ from_of g.members p → from_of g.members p ≤ length g.log →

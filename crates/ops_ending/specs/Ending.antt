@@ -17,7 +17,6 @@ use Rattle.unix_calls.specs.declared.Entry.TheVariants.{Called, Happened}
 use Rattle.unix_calls.specs.declared.Phase.TheVariants as phase
 use Rattle.signal_state.specs.Signals.{Signals}
 use Rattle.vproc_record.specs.declared.Vproc.{Vproc}
-use Rattle.group_record.specs.declared.Allow.TheVariants.{All}
 use Rattle.group_record.specs.declared.Member.{Member}
 use Rattle.group_record.specs.declared.LogEntry.{LogEntry}
 use Rattle.group_record.specs.declared.Group.{Group}
@@ -25,7 +24,7 @@ use Rattle.ordered_table.specs.declared.Entry.{Entry as Held}
 use Rattle.record_bag.specs.declared.bag.Bag.{Bag}
 use Rattle.record_bag.specs.Bags.{vproc_in, group_in}
 use Rattle.process_table.specs.Rows.{pid}
-use Rattle.decide_law.specs.Effects.{changed, same, regroups, Effect}
+use Rattle.decide_law.specs.Effects.{changed, same, regroups, to_one, to_all, Effect}
 use Rattle.decide_law.specs.Counts.{passes, recounted}
 use Rattle.decide_law.specs.Nudges.{others_of}
 
@@ -65,12 +64,6 @@ is_newly_orphaned g later = not (g.links == 0) && ((later.links == 0) && not (la
 
 abbrev pub is_newly : Bag → WaitStatus → Pid → List Pid → Bool → Pid → Group → Bool
 is_newly bag w p children vanished id g = is_newly_orphaned g (ended_counts bag w p children vanished id g)
-
-abbrev pub to_all : Signal → LogEntry
-to_all s = record { signal = s; target = None; allow = All }
-
-abbrev pub to_one : Signal → Pid → LogEntry
-to_one s q = record { signal = s; target = Some q; allow = All }
 
 -- what the log of a group gets: the parent's signal, if it is a member; then a hangup and a continue, if this end leaves it orphaned
 abbrev pub end_entries : Bag → WaitStatus → Pid → Pid → List Pid → Bool → Pid → Group → List LogEntry

@@ -3,6 +3,15 @@
 
 ghost use Rattle.ops_ending.specs.Laws.{ExitIsStep, KilledIsRight};
 
+mod copies;
+mod end_names;
+mod ending;
+mod left_groups;
+mod left_vprocs;
+mod told;
+
+pub use ending::{decide_exit, decide_killed};
+
 /// An exit is a step of the one kernel.
 pub fn exit_is_a_step()
     ensures { ExitIsStep }

@@ -4,3 +4,7 @@ pub mod Replies
 pub mod Whole
 pub mod Exec
 pub mod Steps
+pub mod ExecCode
+pub mod WaitCode
+pub mod TellCode
+pub mod PartCode

@@ -1,3 +1,4 @@
 pub mod Exec
 pub mod Waitpid
+pub mod MethodWaitpid
 pub mod Decide

@@ -1,4 +1,4 @@
-pub mod Birth
 pub mod Step
+pub mod Birth
 pub mod Whole
-pub mod Fresh
+pub mod ForkCode

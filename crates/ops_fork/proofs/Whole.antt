@@ -26,7 +26,7 @@ use Rattle.kernel_rules.specs.Fork.{is_fresh}
 use Rattle.kernel_rules.specs.Replies.{is_first}
 use Rattle.kernel_rules.specs.Calls.{refusal}
 use Rattle.kernel_model.specs.Step.{after_at, sent_at}
-use Rattle.ops_fork.proofs.Fresh.{unused_fresh}
+use Rattle.kernel_laws.proofs.Fresh.{unused_fresh}
 use Rattle.decide_law.specs.Agrees.{IsRecordOf}
 use Rattle.decide_law.specs.Law.{Asks, Based, Settled, next, IsStep}
 use Rattle.decide_law.specs.Places.{destination, named_or}

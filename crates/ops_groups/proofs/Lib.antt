@@ -7,3 +7,6 @@ pub mod Setsid
 pub mod LookSteps
 pub mod LookCode
 pub mod Steps
+pub mod BuiltTables
+pub mod MovedCode
+pub mod ChangeCode

@@ -4,3 +4,5 @@ pub mod MoveLaw
 pub mod Lookups
 pub mod Decide
 pub mod Setsid
+pub mod MethodMove
+pub mod Fitting

@@ -3,3 +3,4 @@ pub mod Whole
 pub mod Actions
 pub mod ActionCode
 pub mod Steps
+pub mod KillCode

@@ -52,7 +52,7 @@ use Rattle.decide_law.specs.Agrees.{group_at, IsRecordOf, VprocAgrees, IsGroupOf
 use Rattle.decide_law.specs.Law.{Settled, next, IsNoBirth, IsStep}
 use Rattle.decide_law.specs.Places.{is_placed}
 use Rattle.decide_law.specs.Nudges.{but_caller, others_of, others_in, own_group, if_living, target_nudges, signal_nudges, nudges_of}
-use Rattle.decide_law.specs.Effects.{Effect, replied, append, unless_refused, decided_by, written}
+use Rattle.decide_law.specs.Effects.{Effect, replied, append, to_one, unless_refused, decided_by, written}
 use Rattle.decide_law.specs.Footprints.{kill_footprint, target_footprint, with_living_group, living_group_shown}
 use Rattle.decide_law.proofs.Records.{number, distinct, pid_same, row_own, member_has}
 use Rattle.decide_law.specs.Parts.{EachHeld, IsCallStep}
@@ -60,7 +60,7 @@ use Rattle.decide_law.proofs.ReplyStep.{refused_legal, reply_step}
 use Rattle.decide_law.proofs.AppendStep.{append_step}
 use Rattle.decide_law.proofs.Shell.{own_record, group_is}
 use Rattle.decide_law.proofs.Told.{present_vproc, present_group}
-use Rattle.ops_signal.specs.Kill.{continues, may_process, is_nobody, is_forbidden, process_forbidden, kill_refusal, to_one, to_group, kill_entry, send_group, send_one, send, send_any, kill_effect}
+use Rattle.ops_signal.specs.Kill.{continues, may_process, is_nobody, is_forbidden, process_forbidden, kill_refusal, to_group, kill_entry, send_group, send_one, send, send_any, kill_effect}
 use Rattle.ops_signal.proofs.Refusals.{may_told, may_in, refusal_is}
 
 -- ---- the table

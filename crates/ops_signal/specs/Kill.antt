@@ -28,7 +28,7 @@ use Rattle.record_bag.specs.Bags.{vproc_in, group_in}
 use Rattle.process_table.specs.Rows.{is_same}
 use Rattle.kernel_rules.specs.Kill.{is_sendable, is_system}
 use Rattle.decide_law.specs.Nudges.{but_caller, others_of}
-use Rattle.decide_law.specs.Effects.{Effect, replied, append, unless_refused}
+use Rattle.decide_law.specs.Effects.{Effect, replied, append, to_one, unless_refused}
 
 -- ---- permission
 -- the signal continues a process of this session, which is the caller's
@@ -78,9 +78,6 @@ kill_refusal bag v target s =
     else None)))
 
 -- ---- sending
-abbrev pub to_one : Signal → Pid → LogEntry
-to_one signal t = record { signal = signal; target = Some t; allow = allow.All }
-
 abbrev pub to_group : Signal → Vproc → ℕ → Group → LogEntry
 to_group signal v s g = record { signal = signal; target = None; allow = allowed v s g }
 

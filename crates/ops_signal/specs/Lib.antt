@@ -2,3 +2,4 @@ pub mod Kill
 pub mod Actions
 pub mod Decide
 pub mod MethodActions
+pub mod MethodKill

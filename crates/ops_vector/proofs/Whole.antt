@@ -50,10 +50,10 @@ use Rattle.migrate_core.proofs.Whole.{moves_answered}
 use Rattle.ops_ending.specs.Laws.{killed_answer}
 use Rattle.ops_ending.proofs.Killed.{killed_is_right}
 use Rattle.ops_deliver.specs.Events.{event_answer}
-use Rattle.ops_deliver.proofs.Answered.{coming_first}
+use Rattle.decide_law.proofs.ComingFirst.{coming_first}
 use Rattle.ops_deliver.proofs.Steps.{events_answered}
 use Rattle.ops_vector.specs.Answer.{call_effect, call_answer, job_answer, event_effect, first_answer, held_answer}
-use Rattle.ops_vector.specs.Law.{HasSignals, QuestionsAnswered}
+use Rattle.ops_vector.specs.Law.{QuestionsAnswered}
 
 -- ---- both records are held
 -- the answer is then the one on them
@@ -80,7 +80,7 @@ moved_told orphaned false true x o e = cc
 moved_told orphaned false false x None e = cc
 moved_told orphaned false false x (Some s) e = moved_by s (has x.caught s) (has_default x s && is_passed_over orphaned s) (has_default x s && is_stop_signal s) (some_same _ _ e)
 
-no_move : (orphaned : Bool) (x : Signals) → event_told orphaned x ≡ Some events.Moved → ⊥
+pub no_move : (orphaned : Bool) (x : Signals) → event_told orphaned x ≡ Some events.Moved → ⊥
 no_move orphaned x e = moved_told orphaned (has (deliverable x) signal.Kill) x.due x (find (λ s. has (deliverable x) s) all_signals) e
 
 -- ---- on the records of the process and of its group
@@ -138,14 +138,14 @@ module _ (nodes : ℕ) (rows : List Row) (p : Pid) (own : Own) (bag : Bag) (site
   event_right events.Moved job a b e = absurd (no_move _ (folded own v g).sig e)
 
   -- an event that comes first, or else the job
-  first_right : (o : Option Event) (job : Job) → HasSignals rows p → (a : Asks nodes rows p job own bag site) → Based rows p own bag a.row v g → coming own v g ≡ o → IsAnswered job (first_answer o job own bag site p v g)
-  first_right (Some event) job signals a b e = event_right event job a b e
-  first_right None job signals a b e =
+  first_right : (o : Option Event) (job : Job) → (a : Asks nodes rows p job own bag site) → Based rows p own bag a.row v g → coming own v g ≡ o → IsAnswered job (first_answer o job own bag site p v g)
+  first_right (Some event) job a b e = event_right event job a b e
+  first_right None job a b e =
       let none : first_event rows a.row ≡ None = sym (coming_first rows p own bag a.row v g b) ∙ e in
-      let quiet = (none_where_clear rows a.row (signals a.row a.there)).0 none in
+      let quiet = (none_where_clear rows a.row a.pending).0 none in
       job_right job a b none (clear_held p own bag v g ev eg (ap deliverable (sym b.own_is.sig) ∙ quiet.0))
 
 pub questions_answered : QuestionsAnswered
-questions_answered nodes rows p job own bag site a signals =
+questions_answered nodes rows p job own bag site a =
     on_base_right nodes rows p job own bag site a (held_answer job own bag site p)
-    (λ v g b. first_right nodes rows p own bag site v g b.vproc b.group (coming own v g) job signals a b refl)
+    (λ v g b. first_right nodes rows p own bag site v g b.vproc b.group (coming own v g) job a b refl)

@@ -12,11 +12,7 @@ use Rattle.decide_law.specs.Law.{Asks}
 use Rattle.decide_law.specs.Vector.{IsAnswer}
 use Rattle.ops_vector.specs.Answer.{unix_answer}
 
--- what is pending for a process is a set of signals, with no number beside theirs
-abbrev pub HasSignals : List Row → Pid → Type 0
-HasSignals rows p = (r : Row) → row_of rows p ≡ Some r → IsSignals r.sig.pending
-
 -- each question that fits is answered as the law has it, whatever table was asked of
 abbrev pub QuestionsAnswered : Type 0
-QuestionsAnswered = (nodes : ℕ) (rows : List Row) (p : Pid) (job : Job) (own : Own) (bag : Bag) (site : Site) → Asks nodes rows p job own bag site → HasSignals rows p →
+QuestionsAnswered = (nodes : ℕ) (rows : List Row) (p : Pid) (job : Job) (own : Own) (bag : Bag) (site : Site) → Asks nodes rows p job own bag site →
     IsAnswer nodes rows p job site bag (unix_answer p job own bag site).bag (unix_answer p job own bag site).outcome
