@@ -1,0 +1,5 @@
+pub mod Pendings
+pub mod Signals
+pub mod Decided
+pub mod Known
+pub mod NamesKept

@@ -1,0 +1,4 @@
+pub mod Placement
+pub mod Numbers
+pub mod Standing
+pub mod Histories

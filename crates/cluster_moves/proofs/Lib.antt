@@ -1,0 +1,4 @@
+pub mod Things
+pub mod Store
+pub mod Moves
+pub mod Returns

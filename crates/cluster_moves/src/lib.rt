@@ -1,0 +1,2 @@
+//! Where records and processes are, each in one place, and the moves of one thing from a container to another.
+#![tactic(auto)]

@@ -1,0 +1,3 @@
+pub mod FirstRecords
+pub mod First
+pub mod FirstWatched

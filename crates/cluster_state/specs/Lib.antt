@@ -1,0 +1,4 @@
+pub mod Cluster
+pub mod Possible
+pub mod Run
+pub mod Quiet

@@ -1,0 +1,2 @@
+//! The turns of a node of a cluster: questions, what follows from their answers, and what a turn leaves.
+#![tactic(auto)]

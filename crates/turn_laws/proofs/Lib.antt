@@ -1,0 +1,4 @@
+pub mod Steps
+pub mod Playing
+pub mod Posting
+pub mod Numbering
