@@ -1,0 +1,5 @@
+pub mod Orders
+pub mod Forks
+pub mod Reports
+pub mod Means
+pub mod Theorem

@@ -1,0 +1,4 @@
+pub mod Acts
+pub mod Files
+pub mod Plans
+pub mod Worlds

@@ -1,0 +1,2 @@
+pub mod MethodSizes
+pub mod Compiled
