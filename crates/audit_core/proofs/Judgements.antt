@@ -7,7 +7,6 @@ use Rattle.unix_calls.specs.declared.World.{World}
 use Rattle.process_table.specs.declared.Row.{Row}
 use Rattle.audit_core.specs.declared.judge.Breach.{Breach}
 use Rattle.audit_core.specs.declared.judge.Breach.TheVariants.{UnknownProcess, ScriptOrder, SignalFirst, WrongReply, WrongEvent}
-use Rattle.kernel_model.specs.declared.Verdict.{Verdict}
 use Rattle.kernel_model.specs.declared.Verdict.TheVariants as kernel
 use Rattle.kernel_model.specs.Step.{verdict, after}
 use Rattle.kernel_model.specs.Legal.{boot, after_entries, after_all, IsLegalFrom, IsLegal}
@@ -20,7 +19,7 @@ use Rattle.audit_core.proofs.Verdicts.{breaks_none}
 
 -- ---- legal histories, entry by entry
 -- one more legal entry
-IsLegalFrom-push : (rows : List Row) (h : List Entry) (e : Entry) → IsLegalFrom rows h → verdict (after_entries rows h) e ≡ kernel.Legal → IsLegalFrom rows (h ++ e ∷ [])
+pub IsLegalFrom-push : (rows : List Row) (h : List Entry) (e : Entry) → IsLegalFrom rows h → verdict (after_entries rows h) e ≡ kernel.Legal → IsLegalFrom rows (h ++ e ∷ [])
 IsLegalFrom-push rows [] e legal now = (now, tt)
 IsLegalFrom-push rows (x ∷ h) e legal now = (legal.0, IsLegalFrom-push (after rows x) h e legal.1 now)
 
@@ -29,7 +28,7 @@ after_entries-push rows [] e = refl
 after_entries-push rows (x ∷ h) e = after_entries-push (after rows x) h e
 
 -- each entry of a legal history is legal where it stands
-IsLegalFrom-at : (rows : List Row) (h : List Entry) (i : ℕ) (e : Entry) → slice_get h i ≡ Some e → IsLegalFrom rows h → verdict (after_entries rows (take i h)) e ≡ kernel.Legal
+pub IsLegalFrom-at : (rows : List Row) (h : List Entry) (i : ℕ) (e : Entry) → slice_get h i ≡ Some e → IsLegalFrom rows h → verdict (after_entries rows (take i h)) e ≡ kernel.Legal
 IsLegalFrom-at rows [] i e there legal = absurd (cc there)
 IsLegalFrom-at rows (x ∷ h) zero e there legal =
     let same : x ≡ e = cc in
@@ -69,7 +68,7 @@ illegal_somewhere world h i rule illegal legal follows =
     breaks_none world (after_all world (take i h)) (running_after world (take i h)) illegal.entry rule
     (IsLegalFrom-at (boot world) h i illegal.entry illegal.next legal) (FollowsFrom-at world (first_running world) h i illegal.entry illegal.next follows) illegal.first.broken
 
-slice_get-take : {A : Type 0} (xs : List A) (i j : ℕ) → i < j → slice_get (take j xs) i ≡ slice_get xs i
+pub slice_get-take : {A : Type 0} (xs : List A) (i j : ℕ) → i < j → slice_get (take j xs) i ≡ slice_get xs i
 slice_get-take [] i zero below = refl
 slice_get-take [] i (suc j) below = refl
 slice_get-take (x ∷ xs) i zero below = absurd (omega arith)

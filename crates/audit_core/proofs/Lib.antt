@@ -1,3 +1,5 @@
 pub mod Judgements
 pub mod Running
+pub mod StampRules
+pub mod StampedHistories
 pub mod Verdicts

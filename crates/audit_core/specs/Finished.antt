@@ -1,8 +1,6 @@
 -- histories after which nothing is left to do
 use Rattle.std.specs.Prelude.{◌≡◌, ◌==◌, ◌⊎◌, Bool, true, false, List, fold, Option, None, Some, if◌then◌else◌}
 use Rattle.unix_names.specs.declared.Pid.{Pid}
-use Rattle.unix_names.specs.declared.Signal.TheVariants.{Kill}
-use Rattle.unix_names.specs.Sets.{has}
 use Rattle.unix_names.specs.States.{is_living}
 use Rattle.unix_calls.specs.declared.Call.{Call}
 use Rattle.unix_calls.specs.declared.Call.TheVariants.{Fork}
@@ -14,7 +12,7 @@ use Rattle.unix_calls.specs.declared.World.{World}
 use Rattle.process_table.specs.declared.Row.{Row}
 use Rattle.process_table.specs.Rows.{row_of}
 use Rattle.kernel_rules.specs.Calls.{allows}
-use Rattle.kernel_rules.specs.Events.{can_call}
+use Rattle.kernel_rules.specs.Events.{can_call, StaysStopped}
 use Rattle.kernel_model.specs.Legal.{after_all}
 use Rattle.proc_image.specs.Scripts.{Progress, next_call, stands_again}
 use Rattle.proc_image.specs.Follows.{running_after}
@@ -32,12 +30,6 @@ later_call pid last (Happened p event) = last
 -- the last call of a process in a history, with its reply
 abbrev pub last_call : List Entry → Pid → Option Entry
 last_call history pid = fold (later_call pid) None history
-
--- the process is stopped, and stays so: it isn't due to continue, and no KILL is pending
-pub record StaysStopped (r : Row) : Type 0 where
-  pub stopped : r.sig.stopped ≡ true
-  pub not_due : r.sig.due ≡ false
-  pub not_killed : has r.sig.pending Kill ≡ false
 
 -- the process sleeps in a wait: it could call, its next statement is a sleeping wait, its last call was this one with the reply Again, and that is the reply still
 pub record SleepsOn (world : World) (history : List Entry) (r : Row) : Type 0 where

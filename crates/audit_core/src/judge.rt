@@ -42,9 +42,9 @@ pub enum Judged {
 
 /// The kernel and the images of all processes, as they are after the entries that were judged so far.
 #[derive(Debug, Drop)]
-struct Judge {
-    kernel: Kernel,
-    images: Table<Image>,
+pub struct Judge {
+    pub kernel: Kernel,
+    pub images: Table<Image>,
 }
 
 /// Judges a history, entry by entry. It needn't be finished.
@@ -67,7 +67,7 @@ pub fn audit(alloc: Global, world: &World, entries: &[Entry]) -> Result<Judged, 
 
 impl Judge {
     /// The judge before the first entry.
-    fn begin(alloc: Global, world: &World) -> Result<Judge, NoMemory>
+    pub fn begin(alloc: Global, world: &World) -> Result<Judge, NoMemory>
         requires { IsValid world.now }
         ensures kernel { IfOk result (λ judge. judge.kernel ≡ boot world.now) }
         ensures running { IfOk result (λ judge. running_of judge.images ≡ first_running world.now) }
@@ -79,7 +79,7 @@ impl Judge {
     }
 
     /// Judges the next entry, and takes it in where it breaks no rule. An illegal entry ends the judgement: the judge is of no use afterwards.
-    fn step(
+    pub fn step(
         &mut self,
         alloc: Global,
         world: &World,

@@ -9,3 +9,4 @@ pub mod WrittenLaws
 pub mod Numerals
 pub mod Stamps
 pub mod TwoMeanings
+pub mod WrittenTwo

@@ -35,7 +35,7 @@ both : (a b : Bool) → (a && b) ≡ true → (a ≡ true) × (b ≡ true)
 both true b h = (refl, h)
 both false b h = absurd (cc)
 
-cut : (w : List ℕ) (ws : List (List ℕ)) (tail : List ℕ) → is_plain w ≡ true → are_plain ws ≡ true
+pub cut : (w : List ℕ) (ws : List (List ℕ)) (tail : List ℕ) → is_plain w ≡ true → are_plain ws ≡ true
     → lines ((w ++ spaced ws ++ 10 ∷ []) ++ tail) ≡ (w ++ spaced ws) ∷ lines tail
 cut w ws tail first rest =
     let line = line-spaced w ws first rest in
@@ -53,7 +53,7 @@ unfolding said
 said-words (Called caller c r) h = let parts = both (is_plain (decimal caller.0)) (are_plain (call_words c ++ reply_words r)) h in words-spaced (decimal caller.0) (call_words c ++ reply_words r) parts.0 parts.1
 said-words (Happened pid e) h = let parts = both (is_plain (decimal pid.0)) (are_plain (event_words e)) h in words-spaced (decimal pid.0) (event_words e) parts.0 parts.1
 
-no-hash : (ds : List ℕ) → AllDigits 10 ds → begins_with_hash ds ≡ false
+pub no-hash : (ds : List ℕ) → AllDigits 10 ds → begins_with_hash ds ≡ false
 no-hash [] h = refl
 no-hash (c ∷ cs) h = let digit = digit_from_value c h.0 in ne_eqb c 35 (λ e. absurd (omega arith))
 

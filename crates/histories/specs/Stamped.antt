@@ -2,12 +2,13 @@
 use Rattle.std.specs.Prelude.{◌≡◌, ℕ, ◌+◌, ◌^◌, ◌<◌, Bool, true, false, ◌&&◌, List, [], ◌∷◌, ◌++◌, codes}
 use Rattle.std.specs.List.{flat_map}
 use Rattle.std.specs.Fmt.{decimal}
+use Rattle.unix_calls.specs.Calls.{IsEntry}
 use Rattle.byte_ends.specs.Text.{words}
 use Rattle.file_parts.specs.Parts.{Lines}
 use Rattle.script_words.specs.Words.{Row, is_same}
 use Rattle.histories.specs.declared.stamped.Stamped.{Stamped}
 use Rattle.histories.specs.History.{line_of, last_line}
-use Rattle.histories.specs.Reading.{SpellsEntry, IsHistoryOf, IsFirstBadOf}
+use Rattle.histories.specs.Reading.{Fits, SpellsEntry, IsHistoryOf, IsFirstBadOf}
 
 -- ---- written
 -- the line of a stamped entry: its place, its user, and the line of the entry
@@ -17,6 +18,14 @@ stamped_line s = decimal s.place ++ (32 ∷ (decimal s.uid ++ (32 ∷ line_of s.
 -- the text of a history of format 2
 abbrev pub text_two : List Stamped → Bool → List ℕ
 text_two entries is_quiet = codes "format 2\n" ++ flat_map stamped_line entries ++ last_line is_quiet
+
+-- the entry is one that a history can hold
+abbrev pub IsStamped : Stamped → Type 0
+IsStamped s = IsEntry s.entry
+
+-- the numbers of a stamped entry fit their types, as they do in each of a program
+abbrev pub FitsStamped : Stamped → Type 0
+FitsStamped s = (s.place < 2 ^ 64) × (s.uid < 2 ^ 32) × Fits s.entry
 
 -- ---- read
 -- words spell a stamped entry: its place, which is below 2^64, its user, which is below 2^32, and the words of the entry

@@ -7,7 +7,7 @@ ghost use Rattle.histories.specs.History.{text};
 ghost use Rattle.histories.specs.Reading.{Fits, Means, IsHistory};
 ghost use Rattle.histories.specs.declared.stamped.Stamped.{Stamped};
 ghost use Rattle.histories.specs.Laws.{MeansOrFails};
-ghost use Rattle.histories.specs.Stamped.{MeansStamped};
+ghost use Rattle.histories.specs.Stamped.{text_two, IsStamped, FitsStamped, MeansStamped, IsHistoryTwo};
 
 /// A line means one entry at most.
 pub fn one_meaning()
@@ -27,6 +27,11 @@ pub fn part_means_or_fails()
 /// A line means one stamped entry at most.
 pub fn one_stamped_meaning()
     ensures { (line : List ℕ) (s t : Stamped) → MeansStamped line s → MeansStamped line t → s ≡ t }
+{}
+
+/// The text of format 2 that is written of some stamped entries is a history of them.
+pub fn stamped_histories_read_back()
+    ensures { (entries : List Stamped) (is_quiet : Bool) → All IsStamped entries → All FitsStamped entries → IsHistoryTwo (lines (text_two entries is_quiet)) entries }
 {}
 
 /// The lines behind `format 2` are a history of one list of stamped entries, or have one first bad line, and never both.

@@ -11,4 +11,4 @@ mod writer;
 
 pub use reader::{BadLine, read_history};
 pub use stamped::{Stamped, put_history_two, read_history_two};
-pub use writer::put_history;
+pub use writer::{put_history, put_set, put_status};

@@ -154,7 +154,8 @@ fn put_event(text: &mut String, event: Event) -> Result<(), AllocError>
     }
 }
 
-fn put_status(text: &mut String, status: WaitStatus) -> Result<(), AllocError>
+/// Puts how a process ended or changed at the end of a text. Where memory runs out the text may have part of it.
+pub fn put_status(text: &mut String, status: WaitStatus) -> Result<(), AllocError>
     ensures { OnOk result (string_bytes text.new ≡ string_bytes text.old ++ spaced (status_words status)) }
 {
     match status {
@@ -165,8 +166,8 @@ fn put_status(text: &mut String, status: WaitStatus) -> Result<(), AllocError>
     }
 }
 
-// The words of a set's signals by number, or a dash.
-fn put_set(text: &mut String, set: SigSet) -> Result<(), AllocError>
+/// Puts the words of a set's signals by number, or a dash, at the end of a text. Where memory runs out the text may have part of it.
+pub fn put_set(text: &mut String, set: SigSet) -> Result<(), AllocError>
     ensures { OnOk result (string_bytes text.new ≡ string_bytes text.old ++ spaced (set_words set)) }
 {
     if set.is_empty() {

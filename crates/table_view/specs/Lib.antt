@@ -1,0 +1,4 @@
+pub mod Grounds
+pub mod MethodNumbers
+pub mod Rows
+pub mod Told
