@@ -2,31 +2,40 @@
 use Rattle.std.proofs.Common.{◌≡◌, Bool, true, false, List, [], ◌∷◌, sym, subst, Option, Some, None, All}
 use Rattle.std.specs.Prelude.{MatchBool}
 use Rattle.std.proofs.lemmas.List.Elements.{All-nil, All-cons}
-use Rattle.unix_calls.specs.declared.Entry.{Entry}
 use Rattle.unix_calls.specs.Calls.{EntryHasNames}
 use Rattle.file_parts.specs.Parts.{Lines}
-use Rattle.histories.specs.Reading.{Means, is_nothing, is_schedule, is_last, OnLine, IsHistory}
-use Rattle.cluster_cli.specs.Audit.{HasHistory}
-
-no_entries : (es : List Entry) → es ≡ [] → All EntryHasNames es
-no_entries es e = subst (All EntryHasNames) (sym e) (All-nil EntryHasNames)
+use Rattle.histories.specs.declared.Stamped.{Stamped}
+use Rattle.histories.specs.Reading.{Means, Meanings, is_nothing, is_schedule, is_last, OnLine, IsHistoryOf}
+use Rattle.histories.specs.Stamped.{MeansStamped, IsHistoryTwo}
+use Rattle.cluster_cli.specs.Audit.{History, plain, stamped, HasHistory}
+use Rattle.cluster_cli.specs.Hearing.{HaveNames}
 
 either : (b : Bool) (P Q R : Type 0) → (P → R) → (Q → R) → MatchBool b P Q → R
 either true P Q R f g h = f h
 either false P Q R f g h = g h
 
-on_line : (l : List _) (Rest : List Entry → Type 0) → ((es : List Entry) → Rest es → All EntryHasNames es) → (es : List Entry) → OnLine Means l Rest es → All EntryHasNames es
-on_line l Rest f [] h = absurd h
-on_line l Rest f (e ∷ es) h = All-cons EntryHasNames e es h.0.is_entry.1 (f es h.1)
+-- ---- what is so of each value that a line can mean is so of all values of a history
+module _ {X : Type 0} (M : Meanings X) (P : X → Type 0) (each : (line : List _) (x : X) → M line x → P x) where
+  none : (xs : List X) → xs ≡ [] → All P xs
+  none xs e = subst (All P) (sym e) (All-nil P)
 
--- the numbers of each call of a history can be names
-history_names : (ls : Lines) (es : List Entry) → IsHistory ls es → All EntryHasNames es
-history_names [] es h = no_entries es h
-history_names (l ∷ ls) es h =
-    either (is_nothing l) _ _ (All EntryHasNames es) (history_names ls es)
-    (either (is_schedule l) _ _ (All EntryHasNames es) (no_entries es)
-    (either (is_last l) _ _ (All EntryHasNames es) (λ x. no_entries es x.0) (on_line l (IsHistory ls) (history_names ls) es))) h
+  on_line : (l : List _) (Rest : List X → Type 0) → ((xs : List X) → Rest xs → All P xs) → (xs : List X) → OnLine M l Rest xs → All P xs
+  on_line l Rest f [] h = absurd h
+  on_line l Rest f (x ∷ xs) h = All-cons P x xs (each l x h.0) (f xs h.1)
 
-pub has_names : (ls : Option Lines) (es : List Entry) → HasHistory ls es → All EntryHasNames es
-has_names None es h = no_entries es h
-has_names (Some ls) es h = history_names ls es h
+  all_so : (ls : Lines) (xs : List X) → IsHistoryOf M ls xs → All P xs
+  all_so [] xs h = none xs h
+  all_so (l ∷ ls) xs h =
+      either (is_nothing l) _ _ (All P xs) (all_so ls xs)
+      (either (is_schedule l) _ _ (All P xs) (none xs)
+      (either (is_last l) _ _ (All P xs) (λ x. none xs x.0) (on_line l (IsHistoryOf M ls) (all_so ls) xs))) h
+
+-- ---- the numbers of each call of a history can be names
+names_two : (ls : Lines) (es : List Stamped) → IsHistoryTwo ls es → All (λ (s : Stamped). EntryHasNames s.entry) es
+names_two [] es h = absurd h
+names_two (l ∷ ls) es h = all_so MeansStamped (λ (s : Stamped). EntryHasNames s.entry) (λ line s m. m.entry.is_entry.1) ls es h.1
+
+pub has_names : (ls : Option Lines) (h : History) → HasHistory ls h → HaveNames h
+has_names None h e = subst HaveNames (sym e) (All-nil EntryHasNames)
+has_names (Some ls) (plain es) h = all_so Means EntryHasNames (λ line e m. m.is_entry.1) ls es h.1
+has_names (Some ls) (stamped es) h = names_two ls es h

@@ -1,8 +1,8 @@
 -- What is read of an input is what it means, and the fault that is told is its least one.
-use Rattle.std.proofs.Common.{◌≡◌, ◌⊎◌, inl, inr, ℕ, ◌+◌, ◌<◌, ◌≤◌, Bool, true, false, cond, List, [], ◌∷◌, length, refl, sym, ap, subst, ◌∙◌, arith, Option, Some, None, Result, Ok, Err}
-use Rattle.std.specs.Prelude.{map, nat_lt}
+use Rattle.std.proofs.Common.{◌≡◌, inl, inr, ℕ, ◌+◌, ◌≤◌, Bool, true, false, cond, List, [], ◌∷◌, length, refl, sym, ap, subst, ◌∙◌, arith, Option, Some, None, Result, Ok, Err}
+use Rattle.std.specs.Prelude.{nat_lt}
 use Rattle.std.proofs.lemmas.Bool.{ltb-true, ltb-false, lt-ltb, le-ltb}
-use Rattle.byte_ends.specs.Text.{lines, words}
+use Rattle.byte_ends.specs.Text.{lines}
 use Rattle.unix_calls.specs.declared.limits.TheConstants.{MOST_TURNS}
 use Rattle.unix_calls.specs.declared.Turn.{Turn}
 use Rattle.unix_calls.specs.declared.Turn.TheVariants.{Auto}
@@ -12,14 +12,13 @@ use Rattle.script_words.specs.declared.faults.Fault.{Fault}
 use Rattle.script_words.specs.declared.faults.Kind.TheVariants.{UnknownWord}
 use Rattle.script_words.specs.Kinds.{fault_at}
 use Rattle.script_reader.specs.Files.{read_part}
-use Rattle.script_laws.specs.Grammar.{IsFile}
 use Rattle.script_laws.proofs.Exact.{read_is_file}
 use Rattle.script_laws.proofs.Whole.{file_read}
 use Rattle.fault_laws.proofs.Least.{least_told}
 use Rattle.run_text.proofs.FaultLaws as turns
 use Rattle.cluster_cli.specs.declared.input.Given.{Given}
-use Rattle.cluster_cli.specs.Found.{turns_given, with_turns, with_schedule, meaning, refused_history, without_history, many_nodes, least, on_one_node, runnable}
-use Rattle.cluster_cli.specs.Input.{schedule_first, Means, IsFaultOfTurns, IsScheduleFault, IsFault, asking_line, IsRun, IsHistoryFault, IsFaultOfRun, IsLesser, IsRefused}
+use Rattle.cluster_cli.specs.Found.{turns_given, with_turns, with_schedule, meaning, refused_history, without_history, least, on_one_node, runnable}
+use Rattle.cluster_cli.specs.Input.{schedule_first, Means, IsFaultOfTurns, IsFault, asking_line, IsRun, IsFaultOfRun, IsLesser, IsRefused}
 
 ok_same : {A E : Type 0} (x y : A) → ◌≡◌ {A = Result A E} (Ok x) (Ok y) → x ≡ y
 ok_same x y e = cc

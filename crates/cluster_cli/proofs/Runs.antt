@@ -1,7 +1,7 @@
 -- What is so of an input that is run.
 use Rattle.std.proofs.Common.{◌≡◌, ◌≤◌, ℕ, ◌+◌, Bool, true, false, List, [], ◌∷◌, ◌++◌, length, refl, sym, ap, subst, ◌∙◌, arith, Option, Some, None, Result, Ok, Err, All}
 use Rattle.std.specs.Prelude.{codes, fold, map, not, take_while, ◌&&◌, nat_lt, nat_le, if◌then◌else◌, ◌^◌}
-use Rattle.std.specs.List.{slice_split, slice_index_or, prefix_len}
+use Rattle.std.specs.List.{slice_split, prefix_len}
 use Rattle.std.proofs.lemmas.List.{length-map, length-take}
 use Rattle.std.proofs.lemmas.List.Splits.{length-slice_split}
 use Rattle.std.proofs.lemmas.List.Sums.{count_by-le-length}
@@ -21,7 +21,6 @@ use Rattle.script_words.specs.declared.faults.Kind.TheVariants.{UnknownWord}
 use Rattle.script_words.specs.Kinds.{fault_at}
 use Rattle.script_reader.specs.Files.{read_part}
 use Rattle.file_parts.specs.Parts.{is_only, world_lines, front_lines, schedule_lines, history_lines}
-use Rattle.unix_calls.specs.declared.Entry.{Entry}
 use Rattle.unix_calls.specs.Calls.{IsEntry}
 use Rattle.script_words.proofs.Numbers.{is_number-decides}
 use Rattle.script_laws.specs.Grammar.{Naming, Part, silent, opens}
@@ -36,7 +35,7 @@ use Rattle.cluster_cli.specs.Replay.{run_text, Runs}
 use Rattle.solo_laws.specs.Laws.{CanRun}
 use Rattle.cluster_cli.specs.declared.input.Given.{Given}
 use Rattle.cluster_cli.specs.Found.{asks_many, is_many, many_nodes, meaning, with_schedule, with_turns, turns_given, refused_history, without_history, least, on_one_node, runnable}
-use Rattle.cluster_cli.specs.Input.{IsRun, Means}
+use Rattle.cluster_cli.specs.Input.{IsRun}
 use Rattle.byte_ends.specs.declared.limits.TheConstants.{LONGEST_INPUT}
 use Rattle.unix_calls.specs.declared.limits.TheConstants.{MOST_NODES, MOST_TURNS}
 

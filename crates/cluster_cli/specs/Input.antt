@@ -1,6 +1,5 @@
 -- What an input means to the commands that read one, and what is wrong with it.
 use Rattle.std.specs.Prelude.{◌≡◌, ◌⊎◌, ℕ, ◌+◌, ◌<◌, ◌≤◌, List, ◌++◌, length, map, codes, Option, Some, None, Ok}
-use Rattle.std.specs.Fmt.{decimal}
 use Rattle.byte_ends.specs.Text.{lines, words}
 use Rattle.unix_calls.specs.declared.World.{World}
 use Rattle.file_parts.specs.Parts.{Lines, world_lines, front_lines, schedule_lines, history_lines}

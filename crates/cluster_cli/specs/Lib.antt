@@ -6,5 +6,6 @@ pub mod Found
 pub mod Input
 pub mod Replay
 pub mod Audit
+pub mod Hearing
 pub mod Load
 pub mod Laws

@@ -1,5 +1,5 @@
 -- What `load` writes.
-use Rattle.std.specs.Prelude.{◌≡◌, ◌+◌, ℕ, Bool, true, false, List, [], ◌∷◌, ◌++◌, length, filter, codes, Ok}
+use Rattle.std.specs.Prelude.{◌≡◌, ◌+◌, ℕ, Bool, true, false, List, [], ◌∷◌, ◌++◌, length, filter, codes}
 use Rattle.std.specs.Fmt.{decimal}
 use Rattle.byte_ends.specs.Text.{lines}
 use Rattle.unix_calls.specs.declared.Call.TheVariants.{Fork}

@@ -1,5 +1,5 @@
 -- What `replay` writes.
-use Rattle.std.specs.Prelude.{◌≡◌, Bool, true, false, List, [], ℕ, Ok}
+use Rattle.std.specs.Prelude.{◌≡◌, Bool, true, false, List, [], ℕ}
 use Rattle.proc_image.specs.declared.image.Image.{Image}
 use Rattle.kernel_model.specs.Legal.{IsLegal}
 use Rattle.proc_image.specs.Follows.{Follows}

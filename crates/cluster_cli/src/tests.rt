@@ -24,6 +24,25 @@ const LARGE_CHILD: &str =
 const LARGE_STATUS: &str =
     "cluster 1\nscript a\nend\nstart 0 a p\nhistory\n2 waitpid -1 = 3 exited 263\n";
 
+const STAMPED: &str =
+    "cluster 1\nscript a\nend\nstart 0 a p\nhistory\nformat 2\n0 0 2 exit 0\nquiet\n";
+
+// The process is of user 0.
+const OTHER_USER: &str = "cluster 1\nscript a\nend\nstart 0 a p\nhistory\nformat 2\n0 7 2 exit 0\n";
+
+const EQUAL_PLACES: &str =
+    "cluster 1\nscript a\ngetpid\ngetppid\nend\nstart 0 a p\nhistory\nformat 2\n3 0 2 getpid = 2\n3 0 2 getppid = 1\n";
+
+// There is no process 9, so its user is not asked.
+const STAMPED_NOBODY: &str =
+    "cluster 1\nscript a\nend\nstart 0 a p\nhistory\nformat 2\n0 7 9 exit 0\n";
+
+const WITHOUT_USER: &str = "cluster 1\nscript a\nend\nstart 0 a p\nhistory\nformat 2\n0 2 exit 0\n";
+
+// The first line of the part is a comment, so the part is of no format 2.
+const LATE_FORMAT: &str =
+    "cluster 1\nscript a\nend\nstart 0 a p\nhistory\n# x\nformat 2\n0 0 2 exit 0\n";
+
 const TWO_NODES: &str = "# two\ncluster 2\nscript a\nend\nstart 0 a p\n";
 
 const MANY_TURNS: &str = "cluster 1\nscript a\nend\nstart 0 a p\nschedule\nauto 200001\n";
@@ -145,6 +164,60 @@ fn answers(rt: HostRuntime) -> Result<(), Fail> {
             100,
             Status::Illegal,
             "bad text at line 6\n",
+        ),
+        (
+            audit.as_slice(),
+            STAMPED,
+            none,
+            none,
+            100,
+            Status::Done,
+            "legal\n",
+        ),
+        (
+            audit.as_slice(),
+            OTHER_USER,
+            none,
+            none,
+            100,
+            Status::Illegal,
+            "illegal at 1: user\n",
+        ),
+        (
+            audit.as_slice(),
+            EQUAL_PLACES,
+            none,
+            none,
+            100,
+            Status::Illegal,
+            "illegal at 2: place\n",
+        ),
+        (
+            audit.as_slice(),
+            STAMPED_NOBODY,
+            none,
+            none,
+            100,
+            Status::Illegal,
+            "illegal at 1: unknown process\n",
+        ),
+        (
+            audit.as_slice(),
+            WITHOUT_USER,
+            none,
+            none,
+            100,
+            Status::Illegal,
+            "bad text at line 7\n",
+        ),
+        (
+            audit.as_slice(),
+            LATE_FORMAT,
+            none,
+            none,
+            100,
+            Status::Illegal,
+            "bad text at line 7\n",
         ),
         (
             ["load", "0", "1", "1"].as_slice(),
