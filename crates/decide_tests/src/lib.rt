@@ -6,8 +6,6 @@ mod family;
 #[cfg(test)]
 mod forks;
 #[cfg(test)]
-mod questions;
-#[cfg(test)]
 mod sendings;
 #[cfg(test)]
 mod turns;

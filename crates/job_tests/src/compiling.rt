@@ -80,6 +80,7 @@ const FAULTS: [(&[u8], u32, JobKind); 26] = [
 fn each_fault(rt: HostRuntime) -> Result<(), Fail> {
     for (file, line, kind) in FAULTS {
         let fault = JobFault { line, kind };
+        assert!(rt; file.len() < 10_000);
         let refused = compile(rt.alloc(), file).err().ok_or("accepted")?;
         assert_eq!(rt; refused, JobRefusal::Bad(fault));
     }
@@ -93,8 +94,10 @@ fn a_statement_too_many(rt: HostRuntime) -> Result<(), Fail> {
     for _ in 0..252 {
         file.extend_from_slice(b"stop a\n")?;
     }
-    assert_eq!(rt; compile(rt.alloc(), &file).is_ok(), true);
+    assert!(rt; file.len() < 10_000);
+    assert!(rt; compile(rt.alloc(), &file).is_ok());
     file.extend_from_slice(b"stop a\n")?;
+    assert!(rt; file.len() < 10_000);
     let refused = compile(rt.alloc(), &file).err().ok_or("accepted")?;
     let fault = JobFault {
         line: 256,
