@@ -1,11 +1,1 @@
-pub mod Status
-pub mod Ends
 pub mod Commands
-pub mod Reading
-pub mod Found
-pub mod Input
-pub mod Replay
-pub mod Audit
-pub mod Hearing
-pub mod Load
-pub mod Laws

@@ -23,7 +23,7 @@ use Rattle.proc_image.proofs.Fits.{All-slice_get}
 use Rattle.courier_core.specs.Wants.{is_name, lists, added, all_added}
 use Rattle.cluster_contents.specs.Placement.{JobFits, Contents, Known}
 use Rattle.decide_law.specs.Needs.{size}
-use Rattle.cluster_contents.specs.Numbers.{CallNames, JobNames}
+use Rattle.cluster_contents.specs.Numbers.{IsShort, CallNames, JobNames}
 use Rattle.cluster_contents.specs.Standing.{ProgressNames}
 
 -- ---- what a process names
@@ -137,3 +137,12 @@ known_small world W q least small u =
 
 pub known_nobody : (world : World) (W : Contents) → Known world W nobody
 known_nobody world W u = u.somebody refl
+
+pub short_zero : IsShort 0
+short_zero = omega arith
+
+pub short_one : IsShort 1
+short_one = omega arith
+
+pub short_nobody : IsShort nobody
+short_nobody = omega arith

@@ -3,3 +3,4 @@ pub mod Signals
 pub mod Decided
 pub mod Known
 pub mod NamesKept
+pub mod Written

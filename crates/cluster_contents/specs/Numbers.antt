@@ -1,5 +1,5 @@
 -- the numbers that a job and a table name
-use Rattle.std.specs.Prelude.{ℕ, List, Some, ◌≡◌}
+use Rattle.std.specs.Prelude.{ℕ, List, Some, ◌≡◌, ◌<◌, ◌^◌}
 use Rattle.unix_names.specs.declared.Pid.{Pid}
 use Rattle.unix_calls.specs.declared.Call.{Call}
 use Rattle.unix_calls.specs.declared.Call.TheVariants as calls
@@ -8,6 +8,10 @@ use Rattle.unix_calls.specs.declared.Job.TheVariants.{Ask, Look, Push}
 use Rattle.process_table.specs.declared.Row.{Row}
 use Rattle.process_table.specs.Rows.{row_of}
 use Rattle.decide_law.specs.Needs.{size}
+
+-- the number fits in 32 bits
+abbrev pub IsShort : ℕ → Type 0
+IsShort n = n < 2 ^ 32
 
 -- each number of a call is of this kind
 abbrev pub CallNames : (ℕ → Type 0) → Call → Type 0

@@ -25,7 +25,7 @@ use Rattle.history_laws.specs.Living.{IsOver}
 use Rattle.cluster_contents.specs.Placement.{View, view, Contents, IsUngiven, Known, Places, AtHome, Rec}
 use Rattle.decide_law.specs.Agrees.{RecordAgrees}
 use Rattle.decide_law.specs.Law.{IsOwn}
-use Rattle.cluster_contents.specs.Numbers.{RowsName}
+use Rattle.cluster_contents.specs.Numbers.{RowsName, IsShort}
 
 -- a living process, as far as its image says
 pub record IsProcess (world : World) (row : Option Row) (far : Option Progress) (x : View) : Type 0 where
@@ -59,10 +59,12 @@ pub record ProgressNames (Given : ℕ → Type 0) (at : Progress) : Type 0 where
   pub maker : Given at.maker.0
   pub vars : All Given at.vars
 
--- what is named was given out, and what was not given out is not there; at most m processes were made at each node, and the table has at most m rows
+-- what is named was given out and fits in 32 bits, and what was not given out is not there; at most m processes were made at each node, and the table has at most m rows
 pub record Knows (world : World) (m : ℕ) (rows : List Row) (W : Contents) (L : Places) : Type 0 where
   pub table : RowsName (Known world W) rows
   pub procs : (q : Pid) (x : View) → W.proc q ≡ Some x → ProgressNames (Known world W) x.at
+  pub short_table : RowsName IsShort rows
+  pub short_procs : (q : Pid) (x : View) → W.proc q ≡ Some x → ProgressNames IsShort x.at
   pub no_row : (q : Pid) → IsUngiven world W.serials q.0 → row_of rows q ≡ None
   pub at_home : (n : Name) → IsUngiven world W.serials (pid_of n) → L (Rec n) ≡ AtHome
   pub least : (j : ℕ) → 2 ≤ W.serials j

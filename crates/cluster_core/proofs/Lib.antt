@@ -6,3 +6,9 @@ pub mod Making
 pub mod Oks
 pub mod Sending
 pub mod Taking
+pub mod Reached
+pub mod Orders
+pub mod Rule
+pub mod Counting
+pub mod GoingOn
+pub mod RunningOn

@@ -3,10 +3,9 @@ ghost use Rattle.std.specs.Prelude.{ℕ, ◌≡◌, ◌<◌, ◌++◌, ◌∷◌
 ghost use Rattle.std.specs.Option.{option_map};
 ghost use Rattle.unix_calls.specs.Valid.{IsValid};
 ghost use Rattle.unix_calls.specs.declared.Turn.TheVariants.{Go, Push, Take};
-ghost use Rattle.cluster_laws.specs.Turns.{CanTurn};
 ghost use Rattle.cluster_state.specs.Cluster.{first_cluster};
-ghost use Rattle.cluster_core.specs.Deciding.{MayDecide};
-ghost use Rattle.cluster_core.specs.MethodShows.{Shown, Shows, IsMade, CanBeMade, AreDelivered};
+ghost use Rattle.cluster_core.specs.MethodShows.{Shows, IsMade, AreDelivered};
+ghost use Rattle.cluster_core.specs.MethodReached.{IsReached};
 
 use crate::arrivals::Arrivals;
 use node_core::{GoRefusal, Node, TakeRefusal};
@@ -76,10 +75,8 @@ pub fn go<O: OpVector>(
     world: &World,
     k: u32,
 ) -> Result<Option<Option<Entry>>, NoMemory>
-    ghost shown: { Shown O }
-    requires can { CanBeMade O.fits O.answer world.now shown }
-    requires shows { Shows world.now.nodes shown places.old.items }
-    ensures { IfOk result (λ made. IsMade O.answer world.now (Go k) shown made places.new.items) }
+    requires { IsReached O.fits O.answer world.now places.old.items }
+    ensures { IfOk result (λ made. (at : IsReached O.fits O.answer world.now places.old.items) → IsMade O.answer world.now (Go k) at.shown made places.new.items) }
 {
     let Some(place) = places.get_mut(k as usize) else {
         return Ok(None);
@@ -102,10 +99,8 @@ pub fn push<O: OpVector>(
     k: u32,
     to: u32,
 ) -> Result<Option<Option<Entry>>, NoMemory>
-    ghost shown: { Shown O }
-    requires can { CanBeMade O.fits O.answer world.now shown }
-    requires shows { Shows world.now.nodes shown places.old.items }
-    ensures { IfOk result (λ made. IsMade O.answer world.now (Push k to) shown made places.new.items) }
+    requires { IsReached O.fits O.answer world.now places.old.items }
+    ensures { IfOk result (λ made. (at : IsReached O.fits O.answer world.now places.old.items) → IsMade O.answer world.now (Push k to) at.shown made places.new.items) }
 {
     if to >= world.nodes {
         return Ok(None);
@@ -131,10 +126,8 @@ pub fn take<O: OpVector>(
     k: u32,
     from: u32,
 ) -> Result<Option<Option<Entry>>, NoMemory>
-    ghost shown: { Shown O }
-    requires can { CanBeMade O.fits O.answer world.now shown }
-    requires shows { Shows world.now.nodes shown places.old.items }
-    ensures { IfOk result (λ made. IsMade O.answer world.now (Take k from) shown made places.new.items) }
+    requires { IsReached O.fits O.answer world.now places.old.items }
+    ensures { IfOk result (λ made. (at : IsReached O.fits O.answer world.now places.old.items) → IsMade O.answer world.now (Take k from) at.shown made places.new.items) }
 {
     let Some(place) = places.get_mut(k as usize) else {
         return Ok(None);
@@ -162,10 +155,8 @@ pub fn turn<O: OpVector>(
     world: &World,
     turn: Turn,
 ) -> Result<Option<Option<Entry>>, NoMemory>
-    ghost shown: { Shown O }
-    requires can { CanBeMade O.fits O.answer world.now shown }
-    requires shows { Shows world.now.nodes shown places.old.items }
-    ensures { IfOk result (λ made. IsMade O.answer world.now turn shown made places.new.items) }
+    requires { IsReached O.fits O.answer world.now places.old.items }
+    ensures { IfOk result (λ made. (at : IsReached O.fits O.answer world.now places.old.items) → IsMade O.answer world.now turn at.shown made places.new.items) }
 {
     match turn {
         Turn::Go(k) => go(places, alloc, world, k),

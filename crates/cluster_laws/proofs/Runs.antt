@@ -9,6 +9,9 @@ use Rattle.unix_calls.specs.declared.Turn.{Turn}
 use Rattle.unix_calls.specs.declared.Turn.TheVariants.{Go, Push, Take, Auto}
 use Rattle.unix_calls.specs.declared.World.{World}
 use Rattle.unix_calls.specs.Valid.{IsValid}
+use Rattle.unix_calls.specs.Calls.{IsEntry}
+use Rattle.std.specs.Prelude.{All as AllOf}
+use Rattle.std.proofs.lemmas.List.Elements.{All-push}
 use Rattle.list_laws.proofs.Filters.{mapped_some}
 use Rattle.proc_image.specs.Follows.{Running, first_running, after_entry, after_entries, Follows}
 use Rattle.proc_image.proofs.FollowsLaws.{FollowsFrom-push, after_entries-push}
@@ -256,7 +259,7 @@ module _ (world : World) (valid : IsValid world) (ask : Ask) (vector : IsVector 
     bench = record { id = s.nodes.id k inside; nodes = s.nodes.nodes k inside; serial = s.nodes.serial k inside; matches = matches };
     standing = s.standing;
     missing = λ q none. let w = s.missing q none in (keeps.nowhere q tt w.0, λ n. keeps.bags q tt (inr w.0) n (W.what n) ∙ w.1 n);
-    knows = record { table = (s.knows).table; procs = (s.knows).procs; no_row = (s.knows).no_row; at_home = λ n u. keeps.homes n ((s.knows).at_home n u); least = (s.knows).least; few = (s.knows).few; short = (s.knows).short };
+    knows = record { table = (s.knows).table; procs = (s.knows).procs; short_table = (s.knows).short_table; short_procs = (s.knows).short_procs; no_row = (s.knows).no_row; at_home = λ n u. keeps.homes n ((s.knows).at_home n u); least = (s.knows).least; few = (s.knows).few; short = (s.knows).short };
     hands = hands;
     present = λ q x is e. s.present q x is (lost q e);
     sane = keeps.sane s.sane;
@@ -378,11 +381,12 @@ module _ (world : World) (valid : IsValid world) (ask : Ask) (vector : IsVector 
     pub watched : AreWatched world C contents (Rests world history)
     pub legal : IsLegal world history
     pub follows : Follows world history
+    pub written : AllOf IsEntry history
 
-  right_after : (m : ℕ) (C : Cluster) (history : List Entry) (entry : Option Entry) → IsLegal world history → Follows world history →
+  right_after : (m : ℕ) (C : Cluster) (history : List Entry) (entry : Option Entry) → IsLegal world history → Follows world history → AllOf IsEntry history →
       TurnIs m (after_all world history) (after_entries world (first_running world) history) history entry C → IsRight (made_if entry m) C (with_entry history entry)
-  right_after m C history None legal follows t = record { contents = t.contents; places = t.places; stands = t.stands; watched = t.watched; legal = legal; follows = follows }
-  right_after m C history (Some e) legal follows t = record {
+  right_after m C history None legal follows written t = record { contents = t.contents; places = t.places; stands = t.stands; watched = t.watched; legal = legal; follows = follows; written = written }
+  right_after m C history (Some e) legal follows written t = record {
     contents = t.contents;
     places = t.places;
     stands = subst (λ far. StandsBy world (made_by e m) (after_all world (history ++ e ∷ [])) far C t.contents t.places) (sym (after_entries-push world (first_running world) history e))
@@ -390,6 +394,7 @@ module _ (world : World) (valid : IsValid world) (ask : Ask) (vector : IsVector 
     watched = t.watched;
     legal = legal-push (boot world) history e legal (t.entry_is).0;
     follows = FollowsFrom-push world (first_running world) history e follows (t.entry_is).1;
+    written = All-push IsEntry history e written (t.entry_is).2;
   }
 
   -- one turn of a cluster that is right
@@ -397,7 +402,7 @@ module _ (world : World) (valid : IsValid world) (ask : Ask) (vector : IsVector 
   does_right little C history turn r right d =
       let m = made_from 66 history in
       let t = turn_is m (after_all world history) (after_entries world (first_running world) history) history refl refl right.contents right.places C d.questions turn r (little history right.follows) right.stands right.watched d.inside d.is in
-      subst (λ k. IsRight k r.cluster (with_entry history r.entry)) (sym (made_next history r.entry)) (right_after m r.cluster history r.entry right.legal right.follows t)
+      subst (λ k. IsRight k r.cluster (with_entry history r.entry)) (sym (made_next history r.entry)) (right_after m r.cluster history r.entry right.legal right.follows right.written t)
     where
       made_next : (history : List Entry) (o : Option Entry) → made_from 66 (with_entry history o) ≡ made_if o (made_from 66 history)
       made_next history None = refl

@@ -4,6 +4,8 @@ use Rattle.unix_calls.specs.declared.Entry.{Entry}
 use Rattle.unix_calls.specs.declared.Turn.{Turn}
 use Rattle.unix_calls.specs.declared.World.{World}
 use Rattle.unix_calls.specs.Valid.{IsValid}
+use Rattle.unix_calls.specs.Calls.{IsEntry}
+use Rattle.std.proofs.lemmas.List.Elements.{All-nil}
 use Rattle.proc_image.specs.Follows.{first_running, after_entries}
 use Rattle.kernel_model.specs.Legal.{after_all}
 use Rattle.decide_law.specs.Vector.{IsVector}
@@ -22,7 +24,7 @@ use Rattle.cluster_laws.specs.Wires.{MessagesStayInside}
 use Rattle.cluster_laws.specs.Offered.{OfferedArePossible, SchedulesRun}
 use Rattle.cluster_laws.proofs.Offered.{offered_does, plays}
 use Rattle.cluster_state.specs.Run.{orders}
-use Rattle.cluster_laws.specs.Laws.{RunsAreLegal, RunsFollow, RunsStand, QuietIsHome, QuietIsFinished, SerialsAreSmall}
+use Rattle.cluster_laws.specs.Laws.{RunsAreLegal, RunsFollow, RunsAreWritten, RunsStand, QuietIsHome, QuietIsFinished, SerialsAreSmall}
 use Rattle.cluster_stands.proofs.First.{first_contents, first_places, first_stands}
 use Rattle.cluster_stands.proofs.FirstWatched.{first_watched}
 use Rattle.cluster_laws.proofs.Runs.{picked, arrived, IsRight, runs_right}
@@ -38,6 +40,7 @@ first_right world valid ask vector = record {
   watched = first_watched world valid;
   legal = tt;
   follows = tt;
+  written = All-nil IsEntry;
 }
 
 -- for every valid world, every lawful vector of decisions and every list of possible turns: the cluster stands for the table after its history, which is legal and follows the scripts
@@ -49,6 +52,9 @@ runs_are_legal world ask turns C entries r = (right world ask turns C entries r)
 
 pub runs_follow : RunsFollow
 runs_follow world ask turns C entries r = (right world ask turns C entries r).follows
+
+pub runs_are_written : RunsAreWritten
+runs_are_written world ask turns C entries r = (right world ask turns C entries r).written
 
 pub runs_stand : RunsStand
 runs_stand world ask turns C entries r = let x = right world ask turns C entries r in (made_from 66 (history_of entries), x.contents, x.places, x.stands)

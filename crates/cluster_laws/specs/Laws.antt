@@ -1,9 +1,10 @@
 -- what is true of every run of a cluster
-use Rattle.std.specs.Prelude.{ℕ, ◌≡◌, ◌<◌, List, Option}
+use Rattle.std.specs.Prelude.{ℕ, ◌≡◌, ◌<◌, All, List, Option}
 use Rattle.unix_names.specs.declared.Name.{Name}
 use Rattle.unix_calls.specs.declared.Entry.{Entry}
 use Rattle.unix_calls.specs.declared.Turn.{Turn}
 use Rattle.unix_calls.specs.declared.World.{World}
+use Rattle.unix_calls.specs.Calls.{IsEntry}
 use Rattle.proc_image.specs.Follows.{first_running, after_entries, Follows}
 use Rattle.record_bag.specs.declared.Held.{Held}
 use Rattle.record_table.specs.declared.Slot.TheVariants.{Home}
@@ -25,6 +26,10 @@ RunsAreLegal = (world : World) (ask : Ask) (turns : List Turn) (C : Cluster) (en
 -- and each process's calls stand in its script's order
 abbrev pub RunsFollow : Type 0
 RunsFollow = (world : World) (ask : Ask) (turns : List Turn) (C : Cluster) (entries : List (Option Entry)) → IsRun world ask turns C entries → Follows world (history_of entries)
+
+-- and each line is one that a history can hold: an exit alone has no reply, and the numbers of a call can be names
+abbrev pub RunsAreWritten : Type 0
+RunsAreWritten = (world : World) (ask : Ask) (turns : List Turn) (C : Cluster) (entries : List (Option Entry)) → IsRun world ask turns C entries → All IsEntry (history_of entries)
 
 -- the cluster stands for the table after its history
 abbrev pub RunsStand : Type 0

@@ -1,7 +1,7 @@
 //! What is true of each run of a cluster, for every vector of decisions that keeps the law, as the contracts of functions without a body.
 #![tactic(auto)]
 
-ghost use Rattle.cluster_laws.specs.Laws.{RunsAreLegal, RunsFollow, RunsStand, QuietIsHome, QuietIsFinished, SerialsAreSmall};
+ghost use Rattle.cluster_laws.specs.Laws.{RunsAreLegal, RunsFollow, RunsAreWritten, RunsStand, QuietIsHome, QuietIsFinished, SerialsAreSmall};
 ghost use Rattle.cluster_laws.specs.Offered.{OfferedArePossible, SchedulesRun};
 ghost use Rattle.cluster_laws.specs.Turns.{TurnsCanBeMade, TurnsSendToNodes};
 ghost use Rattle.cluster_laws.specs.Wires.{MessagesStayInside};
@@ -10,6 +10,7 @@ ghost use Rattle.cluster_laws.specs.Wires.{MessagesStayInside};
 pub fn runs_are_legal()
     ensures legal { RunsAreLegal }
     ensures follows { RunsFollow }
+    ensures written { RunsAreWritten }
     ensures stands { RunsStand }
 {}
 

@@ -51,7 +51,8 @@ use Rattle.decide_law.specs.Agrees.{RecordAgrees}
 use Rattle.decide_law.specs.Law.{IsOwn}
 use Rattle.fork_laws.proofs.Lengths.{booted_short}
 use Rattle.cluster_contents.specs.Standing.{ProcessIs, ProgressNames}
-use Rattle.cluster_contents.proofs.Known.{known_small, known_nobody}
+use Rattle.cluster_contents.specs.Numbers.{IsShort}
+use Rattle.cluster_contents.proofs.Known.{known_small, known_nobody, short_one, short_nobody}
 use Rattle.unix_names.specs.Sets.{IsSignals}
 use Rattle.unix_names.proofs.SetLaws.{IsSignals-none}
 use Rattle.std.proofs.lemmas.Nat.{div-mul-add}
@@ -197,6 +198,25 @@ module _ (world : World) (valid : IsValid world) where
 
   row_known : (q : Pid) (c : Row) → row_of (boot world) q ≡ Some c → Known world first_contents q.0
   row_known q c there = let s = row_start q c there in start_known q.0 s.0 s.1
+
+  -- and is short
+  start_short : (q : ℕ) (s : Start) → at start_number q world.starts ≡ Some s → IsShort q
+  start_short q s e =
+      let k = found_at q world.starts s e in
+      let start = start_of q s e in
+      let nodes = valid.limits.nodes in
+      let node = start.node in
+      let less = count_lt (λ (x : Start). x.node.0 == s.node.0) world.starts k.0 s k.1 (eq-eqb s.node.0 s.node.0 refl) in
+      let before : length (filter (λ (x : Start). x.node.0 == s.node.0) (take k.0 world.starts)) ≡ count_by (λ (x : Start). x.node.0 == s.node.0) (take k.0 world.starts) = length-filter (λ (x : Start). x.node.0 == s.node.0) (take k.0 world.starts) in
+      let all : length (filter (λ (x : Start). x.node.0 == s.node.0) world.starts) ≡ count_by (λ (x : Start). x.node.0 == s.node.0) world.starts = length-filter (λ (x : Start). x.node.0 == s.node.0) world.starts in
+      let few = count_by-le-length (λ (x : Start). x.node.0 == s.node.0) world.starts in
+      let limit = valid.limits.starts in
+      let pid = start.pid in
+      let is : s.pid.0 ≡ q = found start_number q world.starts s e in
+      omega (arith, pid, is, nodes, node, less, before, all, few, limit)
+
+  row_short : (q : Pid) (c : Row) → row_of (boot world) q ≡ Some c → IsShort q.0
+  row_short q c there = let s = row_start q c there in start_short q.0 s.0 s.1
 
   vars_long : (starts : List Start) (vars : List ℕ) → length (fold (λ vars (start : Start). slice_set vars start.var start.pid.0) vars starts) ≡ length vars
   vars_long [] vars = refl
@@ -360,6 +380,20 @@ module _ (world : World) (valid : IsValid world) where
           subst (λ (y : View). ProgressNames (Known world first_contents) y.at) (sym s.2) (record {
             maker = known_nobody world first_contents;
             vars = vars_known (Known world first_contents) world.starts (replicate world.vars nobody) differ (λ x h. start_known x.pid.0 x h) (All-replicate (Known world first_contents) world.vars nobody (known_nobody world first_contents));
+          });
+      short_table = λ q r there.
+          let first = (boot_first world valid).each r (row_here (boot world) q r there) in
+          let group = row_short r.group first.leader first.led in (
+            subst (λ (p : Pid). IsShort p.0) (sym (row_pid (boot world) q r there)) (row_short q r there),
+            subst IsShort (sym first.system_child) short_one,
+            group,
+            subst (λ (p : Pid). IsShort p.0) (sym first.session) group,
+          );
+      short_procs = λ q x is.
+          let s = mapped_some (λ s. view (start_image world s)) (at start_number q.0 world.starts) x is in
+          subst (λ (y : View). ProgressNames IsShort y.at) (sym s.2) (record {
+            maker = short_nobody;
+            vars = vars_known IsShort world.starts (replicate world.vars nobody) differ (λ x h. start_short x.pid.0 x h) (All-replicate IsShort world.vars nobody short_nobody);
           });
       no_row = λ q u. no_row q u (row_of (boot world) q) refl;
       at_home = λ n u. refl;

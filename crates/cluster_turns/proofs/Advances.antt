@@ -21,10 +21,11 @@ use Rattle.unix_calls.specs.declared.Phase.{Phase}
 use Rattle.unix_calls.specs.declared.Phase.TheVariants as phases
 use Rattle.unix_calls.specs.declared.World.{World}
 use Rattle.unix_calls.specs.Valid.{IsValid, IsStatement}
+use Rattle.unix_calls.specs.Calls.{EntryHasNames, IsEntry}
 use Rattle.unix_calls.specs.declared.Statement.{Statement}
 use Rattle.unix_calls.specs.declared.Statement.TheVariants as Statements
 use Rattle.std.specs.Option.{option_map, option_map_or}
-use Rattle.proc_image.specs.Scripts.{node_of, next_call, next_statement, forked}
+use Rattle.proc_image.specs.Scripts.{nobody, node_of, next_call, next_statement, forked}
 use Rattle.proc_image.proofs.Fits.{next_statement-valid}
 use Rattle.vproc_record.specs.declared.Vproc.{Vproc}
 use Rattle.proc_image.specs.Follows.{Running, IsInOrder, first_running, after_entries}
@@ -66,9 +67,10 @@ use Rattle.cluster_contents.specs.Placement.{Where, Wire, InLine, In, Hand, AtHo
 use Rattle.decide_law.specs.Law.{is_stopped_phase, Asks, next, IsStep, BirthIs}
 use Rattle.decide_law.specs.Places.{JobGoes}
 use Rattle.decide_law.specs.Agrees.{RecordAgrees}
-use Rattle.decide_law.proofs.ByName.{agrees_by_name, entry_is as step_entry}
-use Rattle.cluster_contents.specs.Numbers.{RowsName, JobNames}
-use Rattle.decide_law.specs.Needs.{AreTold}
+use Rattle.decide_law.proofs.ByName.{agrees_by_name, IsEntryOf, entry_is as step_entry}
+use Rattle.cluster_contents.specs.Numbers.{IsShort, RowsName, JobNames}
+use Rattle.decide_law.specs.Needs.{IsNamed, AreTold}
+use Rattle.decide_law.proofs.CallNames.{has_names}
 use Rattle.decide_law.specs.Vector.{IsAskedFor, IsAnswer, IsVector}
 use Rattle.cluster_contents.specs.Standing.{IsProcess, ProcessIs, Standing, ProgressNames, Knows, contents_after, serials_after}
 use Rattle.cluster_moves.proofs.Things.{tok_cases, moved-same, moved-other}
@@ -78,7 +80,8 @@ use Rattle.cluster_contents.proofs.Signals.{HeldCase, held_case}
 use Rattle.cluster_contents.proofs.Decided.{running_if, TheChild, Itself, Another, forks_as, gone_view, asks_next, in_order, fork_number}
 use Rattle.cluster_endings.proofs.Finish.{Absent, Ended, now, stands, someone, Someone, child_view, finished_keeps, present_after}
 use Rattle.fork_laws.proofs.Lengths.{step_short}
-use Rattle.cluster_contents.proofs.Known.{job_given, moved_given, lists-append, lists-all_added, known_small, known_nobody}
+use Rattle.cluster_contents.proofs.Known.{job_given, moved_given, lists-append, lists-all_added, known_small, known_nobody, short_zero, short_one, short_nobody}
+use Rattle.cluster_contents.proofs.Written.{legal_written}
 use Rattle.kernel_model.specs.Legal.{after_all}
 use Rattle.cluster_contents.specs.Histories.{with_entry}
 use Rattle.cluster_watch.specs.Watched.{WatchesAt, Rests}
@@ -116,10 +119,10 @@ module _ (world : World) (C : Cluster) (k : ℕ) where
     pub sane : Sane L
     pub watch : WatchesAt world C k W (Rests world history) s
 
-  -- the entry is legal, and follows the script
+  -- the entry is legal, follows the script, and can stand in a history
   abbrev pub EntryIs : List Row → Running → Option Entry → Type 0
   EntryIs rows running None = Unit {0}
-  EntryIs rows running (Some e) = (verdict rows e ≡ Legal) × IsInOrder world running e
+  EntryIs rows running (Some e) = (verdict rows e ≡ Legal) × IsInOrder world running e × IsEntry e
 
   pub record Outcome_is (m : ℕ) (rows : List Row) (running : Running) (history : List Entry) (serials : ℕ → ℕ) (entry : Option Entry) (s : State) : Type 0 where
     pub entry_is : EntryIs rows running entry
@@ -183,6 +186,16 @@ module _ (world : World) (C : Cluster) (k : ℕ) where
     looks : (is_stopped_phase c.image.phase ≡ true → c.job ≡ Look) × (is_stopped_phase c.image.phase ≡ false → c.job ≢ Look)
     looks = looks_if c.image.phase t.fits.job
 
+    -- its numbers, those of its job and of the table are short
+    short_me : IsShort c.image.pid.0
+    short_me = subst (λ (q : Pid). IsShort q.0) (row_pid rows c.image.pid me.process me.there) (t.knows.short_table c.image.pid me.process me.there).0
+
+    short_job : JobNames IsShort c.job
+    short_job = job_given IsShort short_zero short_one short_nobody world c.image c.job t.fits.job short_me (t.knows.short_procs c.image.pid (view c.image) t.fits.image)
+
+    short_fresh : IsShort (fresh_number s)
+    short_fresh = let nodes = valid.limits.nodes in let few = small in let is = number_is in omega (arith, inside, nodes, few, is)
+
     pub asks : Asks world.nodes rows c.image.pid c.job c.image.own c.bag (site_of s)
     asks = record {
       sound = t.standing.sound;
@@ -207,6 +220,7 @@ module _ (world : World) (C : Cluster) (k : ℕ) where
       goes = goes_by c.image.phase t.fits.job;
       pending = t.standing.pending c.image.pid me.process me.there;
       placed = λ v hv. t.standing.places c.image.pid v (holds_what (name.V c.image.pid) (held.V (Some v)) (ap (option_map held.V) hv)).1;
+      numbers = named_known IsShort rows c.image.pid c.job short_me short_job t.knows.short_table;
     }
       where
         to_node : (o : Option Statement) → next_statement world (progress_of c.image) ≡ o → JobGoes world.nodes (AskJob (next_call world c.image.pid (progress_of c.image)) (option_map_or node_of o None))
@@ -259,7 +273,7 @@ module _ (world : World) (C : Cluster) (k : ℕ) where
 
     -- ---- a record is needed
     more_few : Knows world m rows W L → (M : Places) → ((n : Name) → IsUngiven world W.serials (pid_of n) → M (Rec n) ≡ AtHome) → Knows world m rows W M
-    more_few k M at = record { table = k.table; procs = k.procs; no_row = k.no_row; at_home = at; least = k.least; few = k.few; short = k.short }
+    more_few k M at = record { table = k.table; procs = k.procs; short_table = k.short_table; short_procs = k.short_procs; no_row = k.no_row; at_home = at; least = k.least; few = k.few; short = k.short }
 
     later : Knows world m rows W L → (M : Places) → ((n : Name) → IsUngiven world W.serials (pid_of n) → M (Rec n) ≡ AtHome) → Knows world m rows W M
     later k M at = more_few k M at
@@ -438,47 +452,50 @@ module _ (world : World) (C : Cluster) (k : ℕ) where
       known_more : (q : ℕ) → Known world W q → Known world then_W q
       known_more q g u = g (still d.born q u)
 
-      table_after : (o : Option Entry) → d.entry ≡ o → RowsName (Known world then_W) (next rows o)
-      table_after None is = named_more (Known world W) (Known world then_W) rows known_more t.knows.table
-      table_after (Some e) is =
-          names_kept (Known world then_W) rows e t.standing.sound (step_entry step e is).legal (known_more 1 given_one)
-          (λ n f. let r = fork_is e n is f in subst (λ (i : ℕ). Known world then_W i) (sym r.0) (born_known (r.1).0 (r.1).1)) (named_more (Known world W) (Known world then_W) rows known_more t.knows.table)
+      -- what is said of the numbers of the table, and of each process, is said of them afterwards, where it is said of a child's number
+      module _ (Given Given' : ℕ → Type 0) (more : (q : ℕ) → Given q → Given' q) (zero_given : Given' 0) (one_given : Given' 1) (nobody_given : Given' nobody) (mine : Given' c.image.pid.0)
+          (born : (v : Vproc) → d.born ≡ Some v → Given' (fresh_number s)) (table : RowsName Given rows) (procs : (q : Pid) (x : View) → W.proc q ≡ Some x → ProgressNames Given x.at) where
+        table_after : (o : Option Entry) → d.entry ≡ o → RowsName Given' (next rows o)
+        table_after None is = named_more Given Given' rows more table
+        table_after (Some e) is =
+            names_kept Given' rows e t.standing.sound (step_entry step e is).legal one_given
+            (λ n f. let r = fork_is e n is f in subst (λ (i : ℕ). Given' i) (sym r.0) (born (r.1).0 (r.1).1)) (named_more Given Given' rows more table)
 
-      my_names : ProgressNames (Known world then_W) (progress_of c.image)
-      my_names = progress_more (Known world W) (Known world then_W) (progress_of c.image) known_more (t.knows.procs c.image.pid (view c.image) t.fits.image)
+        my_names : ProgressNames Given' (progress_of c.image)
+        my_names = progress_more Given Given' (progress_of c.image) more (procs c.image.pid (view c.image) t.fits.image)
 
-      own_names : (o : Option Entry) → d.entry ≡ o → ProgressNames (Known world then_W) (progress_of (image_after world c.image d.own d.phase o))
-      own_names None is = my_names
-      own_names (Some (Happened q event)) is = my_names
-      own_names (Some (Called caller call reply)) is =
-          moved_given (Known world then_W) (known_more 0 given_zero) (known_more 1 given_one) (known_nobody world then_W) world c.image.pid (progress_of c.image) reply
-          (λ f. reply_known reply (λ n e. let r = fork_is (Called caller call reply) n is (subst (λ (x : Call). ForksAs (Called caller x reply) n) (sym (asked_fork ∙ f)) (subst (λ (x : Reply). ForksAs (Called caller Fork x) n) (sym e) refl)) in
-          subst (λ (i : ℕ). Known world then_W i) (sym r.0) (born_known (r.1).0 (r.1).1))) my_names
-        where
-          asked_fork : call ≡ next_call world c.image.pid (progress_of c.image)
-          asked_fork =
-              let l = step_entry step (Called caller call reply) is in
-              asks_next world valid rows running W t.standing c.image c.job c.bag (site_of s) d bag' (λ n h e. (holds_what n h e).1) step t.fits.image t.fits.job asks.fresh asks.fresh_held asks.here call ((l.of).1).0 ((l.of).1).1
+        own_names : (o : Option Entry) → d.entry ≡ o → ProgressNames Given' (progress_of (image_after world c.image d.own d.phase o))
+        own_names None is = my_names
+        own_names (Some (Happened q event)) is = my_names
+        own_names (Some (Called caller call reply)) is =
+            moved_given Given' zero_given one_given nobody_given world c.image.pid (progress_of c.image) reply
+            (λ f. reply_known reply (λ n e. let r = fork_is (Called caller call reply) n is (subst (λ (x : Call). ForksAs (Called caller x reply) n) (sym (asked_fork ∙ f)) (subst (λ (x : Reply). ForksAs (Called caller Fork x) n) (sym e) refl)) in
+            subst (λ (i : ℕ). Given' i) (sym r.0) (born (r.1).0 (r.1).1))) my_names
+          where
+            asked_fork : call ≡ next_call world c.image.pid (progress_of c.image)
+            asked_fork =
+                let l = step_entry step (Called caller call reply) is in
+                asks_next world valid rows running W t.standing c.image c.job c.bag (site_of s) d bag' (λ n h e. (holds_what n h e).1) step t.fits.image t.fits.job asks.fresh asks.fresh_held asks.here call ((l.of).1).0 ((l.of).1).1
 
-          reply_known : (reply : Reply) → ((n : ℕ) → reply ≡ Number n → Known world then_W n) → Known world then_W (forked reply)
-          reply_known (Number n) born = born n refl
-          reply_known _ born = known_nobody world then_W
+            reply_known : (reply : Reply) → ((n : ℕ) → reply ≡ Number n → Given' n) → Given' (forked reply)
+            reply_known (Number n) born = born n refl
+            reply_known _ born = nobody_given
 
-      procs_named : (q : Pid) (x : View) → then_W.proc q ≡ Some x → ProgressNames (Known world then_W) x.at
-      procs_named q x e = go (someone world C k valid rows running W t.standing L s c.image c.job c.bag (site_of s) d bag' t.bench t.hand t.fits.bag step t.fits.image t.fits.job t.missing asks.fresh (t.knows.at_home (name.V (site_of s).fresh) fresh_ungiven) fresh_home asks.here t.bench.id q)
-        where
-          go : Someone world C k valid rows running W t.standing L s c.image c.job c.bag (site_of s) d bag' t.bench t.hand t.fits.bag step t.fits.image t.fits.job t.missing asks.fresh (t.knows.at_home (name.V (site_of s).fresh) fresh_ungiven) fresh_home asks.here t.bench.id q → ProgressNames (Known world then_W) x.at
-          go (TheChild v is same f) =
-              let there = child_view world C k valid rows running W t.standing L s c.image c.job c.bag (site_of s) d bag' t.bench t.hand t.fits.bag step t.fits.image t.fits.job t.missing asks.fresh (t.knows.at_home (name.V (site_of s).fresh) fresh_ungiven) fresh_home asks.here t.bench.id v is f in
-              let val : view (child_image c.image v.pid f.child) ≡ x = some_same _ _ (sym there ∙ ap then_W.proc (sym same) ∙ e) in
-              subst (λ (y : View). ProgressNames (Known world then_W) y.at) val (record {
-                maker = subst (λ (u : Pid). Known world then_W u.0) (sym f.maker) (known_more c.image.pid.0 given_me);
-                vars = subst (λ l. All (Known world then_W) l) (sym f.vars) my_names.vars;
-              })
-          go (Itself same here) =
-              let val : x ≡ view (image_after world c.image d.own d.phase d.entry) = gone_view (image_after world c.image d.own d.phase d.entry).phase (image_after world c.image d.own d.phase d.entry) x (sym here ∙ e) in
-              subst (λ (y : View). ProgressNames (Known world then_W) y.at) (sym val) (own_names d.entry refl)
-          go (Another ne none unforked was) = progress_more (Known world W) (Known world then_W) x.at known_more (t.knows.procs q x (sym was ∙ e))
+        procs_named : (q : Pid) (x : View) → then_W.proc q ≡ Some x → ProgressNames Given' x.at
+        procs_named q x e = go (someone world C k valid rows running W t.standing L s c.image c.job c.bag (site_of s) d bag' t.bench t.hand t.fits.bag step t.fits.image t.fits.job t.missing asks.fresh (t.knows.at_home (name.V (site_of s).fresh) fresh_ungiven) fresh_home asks.here t.bench.id q)
+          where
+            go : Someone world C k valid rows running W t.standing L s c.image c.job c.bag (site_of s) d bag' t.bench t.hand t.fits.bag step t.fits.image t.fits.job t.missing asks.fresh (t.knows.at_home (name.V (site_of s).fresh) fresh_ungiven) fresh_home asks.here t.bench.id q → ProgressNames Given' x.at
+            go (TheChild v is same f) =
+                let there = child_view world C k valid rows running W t.standing L s c.image c.job c.bag (site_of s) d bag' t.bench t.hand t.fits.bag step t.fits.image t.fits.job t.missing asks.fresh (t.knows.at_home (name.V (site_of s).fresh) fresh_ungiven) fresh_home asks.here t.bench.id v is f in
+                let val : view (child_image c.image v.pid f.child) ≡ x = some_same _ _ (sym there ∙ ap then_W.proc (sym same) ∙ e) in
+                subst (λ (y : View). ProgressNames Given' y.at) val (record {
+                  maker = subst (λ (u : Pid). Given' u.0) (sym f.maker) mine;
+                  vars = subst (λ l. All Given' l) (sym f.vars) my_names.vars;
+                })
+            go (Itself same here) =
+                let val : x ≡ view (image_after world c.image d.own d.phase d.entry) = gone_view (image_after world c.image d.own d.phase d.entry).phase (image_after world c.image d.own d.phase d.entry) x (sym here ∙ e) in
+                subst (λ (y : View). ProgressNames Given' y.at) (sym val) (own_names d.entry refl)
+            go (Another ne none unforked was) = progress_more Given Given' x.at more (procs q x (sym was ∙ e))
 
       no_row_after : (q : Pid) → IsUngiven world then_W.serials q.0 → row_of (next rows d.entry) q ≡ None
       no_row_after q u = go d.entry refl
@@ -523,8 +540,15 @@ module _ (world : World) (C : Cluster) (k : ℕ) where
       entry_is : (o : Option Entry) → d.entry ≡ o → EntryIs rows running o
       entry_is None is = tt
       entry_is (Some e) is =
-          let l = step_entry step e is in
-          (l.legal, in_order world valid rows running W t.standing c.image c.job c.bag (site_of s) d bag' (λ n h e. (holds_what n h e).1) step t.fits.image t.fits.job asks.fresh asks.fresh_held asks.here e l.of)
+          let l = step_entry step e is in (
+            l.legal,
+            in_order world valid rows running W t.standing c.image c.job c.bag (site_of s) d bag' (λ n h e. (holds_what n h e).1) step t.fits.image t.fits.job asks.fresh asks.fresh_held asks.here e l.of,
+            legal_written rows e l.legal (names_of e l.of),
+          )
+        where
+          names_of : (e : Entry) → IsEntryOf c.image.pid c.job e → EntryHasNames e
+          names_of (Called caller call reply) of = has_names rows c.image.pid call (of.1).0 (λ n named. asks.numbers n (subst (λ j. IsNamed rows c.image.pid j n) (sym (of.1).1) named))
+          names_of (Happened q event) of = tt
 
       serial_elsewhere : (b : Option Vproc) (j : ℕ) → j ≢ k → serials_after W.serials s.id b j ≡ W.serials j
       serial_elsewhere None j ne = refl
@@ -545,8 +569,10 @@ module _ (world : World) (C : Cluster) (k : ℕ) where
           standing = stands world C k valid rows running W t.standing L s c.image c.job c.bag (site_of s) d bag' t.bench t.hand t.fits.bag step t.fits.image t.fits.job t.missing asks.fresh (t.knows.at_home (name.V (site_of s).fresh) fresh_ungiven) fresh_home asks.here t.bench.id;
           missing = ended.nobodies;
           knows = record {
-            table = table_after d.entry refl;
-            procs = procs_named;
+            table = table_after (Known world W) (Known world then_W) known_more (known_more 0 given_zero) (known_more 1 given_one) (known_nobody world then_W) (known_more c.image.pid.0 given_me) born_known t.knows.table t.knows.procs d.entry refl;
+            procs = procs_named (Known world W) (Known world then_W) known_more (known_more 0 given_zero) (known_more 1 given_one) (known_nobody world then_W) (known_more c.image.pid.0 given_me) born_known t.knows.table t.knows.procs;
+            short_table = table_after IsShort IsShort (λ q g. g) short_zero short_one short_nobody short_me (λ v is. short_fresh) t.knows.short_table t.knows.short_procs d.entry refl;
+            short_procs = procs_named IsShort IsShort (λ q g. g) short_zero short_one short_nobody short_me (λ v is. short_fresh) t.knows.short_table t.knows.short_procs;
             no_row = no_row_after;
             at_home = λ n u. ended.rest_home n (t.knows.at_home n (still d.born (pid_of n) u));
             least = serial_least d.born;

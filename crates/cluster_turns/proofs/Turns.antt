@@ -119,7 +119,7 @@ module _ (world : World) (valid : IsValid world) (ask : Ask) (vector : IsVector 
     picked_missing W L q X missing at r none = let w = missing r none in ((keeps_inside L q X Hand tt at).nowhere r tt w.0, w.1)
 
     picked_knows : (W : Contents) (L : Places) (q : Pid) → Knows world m rows W L → Knows world m rows W (moved L (Proc q) Hand)
-    picked_knows W L q k = record { table = k.table; procs = k.procs; no_row = k.no_row; at_home = k.at_home; least = k.least; few = k.few; short = k.short }
+    picked_knows W L q k = record { table = k.table; procs = k.procs; short_table = k.short_table; short_procs = k.short_procs; no_row = k.no_row; at_home = k.at_home; least = k.least; few = k.few; short = k.short }
 
     picked_hands : (L : Places) (t : Token) → ((u : Token) → L u ≡ Hand → None_gone u) → (u : Token) → moved L t Hand u ≡ Hand → u ≡ t
     picked_hands L t idle u e = go (tok_cases t u)
@@ -258,7 +258,7 @@ module _ (world : World) (valid : IsValid world) (ask : Ask) (vector : IsVector 
       contents = W;
       elsewhere = λ j ne. refl;
       places = M;
-      between = record { bench = b; standing = standing; missing = missing; knows = record { table = k.table; procs = k.procs; no_row = k.no_row; at_home = λ n u. homes n (k.at_home n u); least = k.least; few = k.few; short = k.short }; idle = idle; present = present; sane = sane; watch = watch };
+      between = record { bench = b; standing = standing; missing = missing; knows = record { table = k.table; procs = k.procs; short_table = k.short_table; short_procs = k.short_procs; no_row = k.no_row; at_home = λ n u. homes n (k.at_home n u); least = k.least; few = k.few; short = k.short }; idle = idle; present = present; sane = sane; watch = watch };
     }
 
     kept_missing : (W : Contents) (P : Pid → Type 0) (L M : Places) → Keeps P L M → ((q : Pid) → W.proc q ≡ None → P q) → Absent W L → Absent W M

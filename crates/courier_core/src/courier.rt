@@ -77,7 +77,8 @@ impl Courier {
         }
     }
 
-    fn least_lacking(&self, need: &[Name]) -> Option<Name>
+    /// The least of the needed and wanted names that the bag lacks. None exactly where it lacks none. It takes no memory.
+    pub fn least_lacking(&self, need: &[Name]) -> Option<Name>
         ensures { result ≡ next_want self.now need.now }
     {
         let wanted = least_lacking(&self.bag, None, self.wants.as_slice());

@@ -32,3 +32,5 @@ pub mod FirstEvent
 pub mod Arrivals
 pub mod ComingFirst
 pub mod Fitting
+pub mod CallNames
+pub mod Unsettled

@@ -1,5 +1,5 @@
 -- what a decision owes the one kernel
-use Rattle.std.specs.Prelude.{ℕ, Bool, true, false, ◌≡◌, ◌≢◌, ◌≤◌, ◌<◌, ◌==◌, List, [], ◌++◌, length, Option, None, Some, is_some}
+use Rattle.std.specs.Prelude.{ℕ, Bool, true, false, ◌≡◌, ◌≢◌, ◌≤◌, ◌<◌, ◌^◌, ◌==◌, List, [], ◌++◌, length, Option, None, Some, is_some}
 use Rattle.unix_names.specs.declared.Pid.{Pid}
 use Rattle.unix_names.specs.declared.NodeId.{NodeId}
 use Rattle.unix_names.specs.declared.Signal.{Signal}
@@ -36,6 +36,7 @@ use Rattle.decide_law.specs.Wakes.{is_nudged, WakesOthers}
 use Rattle.decide_law.specs.Nudges.{nudges_of}
 use Rattle.decide_law.specs.Places.{destination, JobGoes, is_placed, place_after}
 use Rattle.decide_law.specs.Agrees.{vproc_at, group_at, VprocAgrees, GroupAgrees, Agrees}
+use Rattle.decide_law.specs.Needs.{IsNamed}
 
 -- ---- before
 -- the row of a process has the signals that its image carries, with those of its stream that were not taken
@@ -69,6 +70,8 @@ pub record Asks (nodes : ℕ) (rows : List Row) (p : Pid) (job : Job) (own : Own
   pub here : site.node.0 < nodes
   pub goes : JobGoes nodes job
   pub placed : (v : Vproc) → vproc_at bag p ≡ Some (Some v) → v.loc.0 < nodes
+  -- the numbers of the process, of its job and of the table, which a decision may ask for, fit in 32 bits
+  pub numbers : (n : ℕ) → IsNamed rows p job n → n < 2 ^ 32
 
 -- a question about a living process whose record and group are held, over a bag that agrees with a sound table: what each decision starts from
 pub record Based (rows : List Row) (p : Pid) (own : Own) (bag : Bag) (r : Row) (v : Vproc) (g : Group) : Type 0 where

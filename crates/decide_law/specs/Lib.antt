@@ -15,3 +15,5 @@ pub mod Parts
 pub mod MethodNeeds
 pub mod MethodAppend
 pub mod Arrivals
+pub mod Kept
+pub mod MethodKept

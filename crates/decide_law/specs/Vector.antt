@@ -58,6 +58,12 @@ pub record Fits (p : Pid) (job : Job) (own : Own) (bag : Bag) (site : Site) : Ty
   pub rows : List Row
   pub asks : Asks nodes rows p job own bag site
 
+-- a question about the process fits, with some job and at some place
+pub record IsFitting (p : Pid) (own : Own) (bag : Bag) : Type 0 where
+  pub job : Job
+  pub site : Site
+  pub fits : Fits p job own bag site
+
 -- each question is answered so
 pub record IsVector (nodes : ℕ) (ask : Pid → Job → Own → Bag → Site → Answered) : Type 0 where
   pub answers : (rows : List Row) (p : Pid) (job : Job) (own : Own) (bag : Bag) (site : Site) → Asks nodes rows p job own bag site → IsAnswer nodes rows p job site bag (ask p job own bag site).bag (ask p job own bag site).outcome

@@ -1,18 +1,17 @@
 // A signal more in the log of a group, which may be the caller's own, as the caller is settled.
-ghost use Rattle.std.specs.Prelude.{◌≡◌, ◌≤◌, length, map, None, Some, IsSome, All, IfOk, OnOk, OnErr};
+ghost use Rattle.std.specs.Prelude.{◌≡◌, ◌≤◌, length, None, Some, IsSome, All, IfOk, OnOk, OnErr};
 ghost use Rattle.std.specs.Option.{option_map};
 ghost use Rattle.ordered_table.specs.Entries.{IsRising};
 ghost use Rattle.vproc_record.specs.declared.Vproc.{Vproc as TheVproc};
 ghost use Rattle.group_record.specs.declared.Group.{Group as TheGroup};
-ghost use Rattle.group_record.specs.Members.{begun_at};
 ghost use Rattle.decide_law.specs.Agrees.{vproc_at, group_at};
 ghost use Rattle.decide_law.specs.Base.{HasBase};
 ghost use Rattle.decide_law.specs.Effects.{only, changed, same, folded, emptied, told_to, settled_in};
 ghost use Rattle.decide_law.specs.MethodAppend.{begun};
 
-use group_record::{Group, LogEntry, Member};
+use group_record::LogEntry;
 use record_bag::Bag;
-use sig_stream::fold_tail;
+use sig_stream::fold_all;
 use signal_state::Own;
 use unix_names::{NoMemory, Pid};
 
@@ -56,43 +55,15 @@ fn empty_backlog(pid: Pid, bag: &mut Bag)
     }
 }
 
-fn begun_at(end: u64, p: Pid, m: Member) -> Member
-    ensures { result ≡ begun_at end p m }
-{
-    if m.pid == p {
-        Member {
-            pid: m.pid,
-            from: end,
-            uid: m.uid,
-        }
-    } else {
-        m
-    }
-}
-
-fn begin_at(members: &mut [Member], end: u64, p: Pid)
-    ensures { members.new ≡ map (begun_at end p) members.old }
-{
-    for m in members.iter_mut() {
-        *m = begun_at(end, p, *m);
-    }
-}
-
-fn begin(g: &mut Group, end: u64, p: Pid)
-    ensures { g.new ≡ begun end p g.old }
-{
-    begin_at(g.members.as_mut_slice(), end, p);
-}
-
 // The process has taken what its group's log had for it up to this place.
-fn begin_in(id: Pid, end: u64, pid: Pid, bag: &mut Bag)
+pub(crate) fn begin_in(id: Pid, end: u64, pid: Pid, bag: &mut Bag)
     requires { IsSome (group_at bag.old id) }
     ensures bag { bag.new ≡ changed same (only id (option_map (begun end pid))) bag.old }
     ensures vprocs { bag.new.vprocs ≡ bag.old.vprocs }
 {
     groups_rise(bag);
     if let Some(mut g) = bag.groups.replace(id, None) {
-        begin(&mut g, end, pid);
+        g.begin_at(end, pid);
         bag.groups.replace(id, Some(g));
     }
 }
@@ -108,8 +79,7 @@ fn fold_in(own: &mut Own, pid: Pid, bag: &Bag) -> (Pid, u64)
     let Some(g) = bag.group(v.group) else {
         unreachable!();
     };
-    fold_tail(own, v, g);
-    own.taken = 0;
+    fold_all(own, v, g);
     (v.group, g.log.len() as u64)
 }
 

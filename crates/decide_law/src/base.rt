@@ -7,7 +7,7 @@ ghost use Rattle.record_bag.specs.Bags.{vproc_in, group_in};
 ghost use Rattle.decide_law.specs.Base.{base_outcome, folded_in};
 
 use record_bag::{Bag, Outcome};
-use sig_stream::fold_tail;
+use sig_stream::fold_all;
 use signal_state::Own;
 use std::alloc::Global;
 use unix_names::{Name, NoMemory, Pid, Seq};
@@ -24,8 +24,7 @@ pub fn folded(pid: Pid, own: &Own, bag: &Bag) -> Option<Own>
         return None;
     };
     let mut folded = *own;
-    fold_tail(&mut folded, v, g);
-    folded.taken = 0;
+    fold_all(&mut folded, v, g);
     Some(folded)
 }
 

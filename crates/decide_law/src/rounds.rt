@@ -14,7 +14,7 @@ ghost use Rattle.decide_law.specs.Effects.{folded, emptied, settled_in, trimmed_
 
 use group_record::Group;
 use record_bag::{Bag, Decided, Outcome};
-use sig_stream::{fold_tail, settle};
+use sig_stream::fold_all;
 use signal_state::Own;
 use std::alloc::Global;
 use unix_calls::{Entry, Phase};
@@ -22,7 +22,7 @@ use unix_names::{Pid, Seq};
 use vproc_record::Vproc;
 
 // The names of a bag rise.
-fn both_rise(bag: &Bag)
+pub(crate) fn both_rise(bag: &Bag)
     ensures vprocs { IsRising bag.now.vprocs }
     ensures groups { IsRising bag.now.groups }
 {
@@ -38,8 +38,9 @@ fn take_in(own: &mut Own, v: &mut Vproc, g: &mut Group)
     ensures vproc { v.new ≡ emptied v.old }
     ensures group { g.new ≡ settled g.old v.old.pid }
 {
-    fold_tail(own, v, g);
-    settle(own, v, g);
+    fold_all(own, v, g);
+    v.backlog.clear();
+    g.settle(v.pid);
 }
 
 /// The process takes in its tail, and is settled. Answers its group, which is there. It takes no memory.

@@ -5,6 +5,7 @@ ghost use Rattle.group_record.specs.declared.Group.{Group as TheGroup};
 ghost use Rattle.group_record.specs.Members.{has_member};
 ghost use Rattle.decide_law.specs.Agrees.{vproc_at, group_at};
 ghost use Rattle.decide_law.specs.Base.{HasBase};
+ghost use Rattle.decide_tests.specs.Families.{fresh_own};
 
 use group_record::{Group, Member};
 use record_bag::{Bag, Held};
@@ -78,7 +79,9 @@ pub fn family(alloc: Global) -> Result<Bag, NoMemory> {
 }
 
 /// A process that has taken nothing, and has no signals.
-pub fn fresh_own() -> Own {
+pub fn fresh_own() -> Own
+    ensures { result ≡ fresh_own }
+{
     Own {
         sig: Sig::fresh(),
         taken: 0,

@@ -2,6 +2,10 @@
 #![tactic(auto)]
 
 #[cfg(test)]
+mod endings;
+#[cfg(test)]
+mod families;
+#[cfg(test)]
 mod family;
 #[cfg(test)]
 mod forks;
@@ -9,3 +13,7 @@ mod forks;
 mod sendings;
 #[cfg(test)]
 mod turns;
+#[cfg(test)]
+mod vectors;
+#[cfg(test)]
+mod waits;

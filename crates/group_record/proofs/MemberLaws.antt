@@ -1,5 +1,5 @@
 -- who is a member after the changes of a group's record, and with which user id
-use Rattle.std.proofs.Common.{◌≡◌, ◌≢◌, ◌==◌, ◌≤◌, ℕ, Bool, true, false, cond, not, List, [], ◌∷◌, ◌++◌, length, refl, sym, ap, ◌∙◌, arith, Option, None, Some}
+use Rattle.std.proofs.Common.{◌≡◌, ◌≢◌, ◌==◌, ◌≤◌, ◌-◌, min, drop, ℕ, Bool, true, false, cond, not, List, [], ◌∷◌, ◌++◌, length, refl, sym, ap, ◌∙◌, arith, Option, None, Some}
 use Rattle.std.specs.Prelude.{map, filter, is_some, All}
 use Rattle.std.specs.Option.{option_map}
 use Rattle.std.proofs.lemmas.Bool.{eqb-true, eqb-false, ne_eqb}
@@ -8,8 +8,8 @@ use Rattle.list_laws.proofs.Finding.{at-map, same_number}
 use Rattle.unix_names.specs.declared.Pid.{Pid}
 use Rattle.group_record.specs.declared.member.Member.{Member}
 use Rattle.group_record.specs.declared.group.Group.{Group}
-use Rattle.group_record.specs.Members.{member_number, member_of, has_member, uid_of, begun_at}
-use Rattle.group_record.specs.Groups.{joined, left, settled}
+use Rattle.group_record.specs.Members.{member_number, member_of, has_member, uid_of, least_of, lowered, begun_at}
+use Rattle.group_record.specs.Groups.{joined, left, cut, settled}
 
 -- ---- leaving
 -- who left is no member
@@ -78,3 +78,20 @@ settled-joined g p uid absent = ap (λ ms. record (joined g p uid) { members = m
     go : (ms : List Member) → has_member ms p ≡ false → map (begun_at (length g.log) p) (ms ++ new ∷ []) ≡ ms ++ new ∷ []
     go [] h = ap (λ (m : Member). m ∷ []) last
     go (m ∷ ms) h = step m ms (m.pid.0 == p.0) refl h (go ms)
+
+-- ---- cutting
+lowered-none : (m : Member) → lowered 0 m ≡ m
+lowered-none m = let z : m.from - 0 ≡ m.from = omega arith in ap (λ (n : ℕ). record m { from = n }) z
+
+all-lowered-none : (ms : List Member) → map (lowered 0) ms ≡ ms
+all-lowered-none [] = refl
+all-lowered-none (m ∷ ms) = ap (λ (x : Member). x ∷ map (lowered 0) ms) (lowered-none m) ∙ ap (λ (xs : List Member). m ∷ xs) (all-lowered-none ms)
+
+-- where nothing is cut nothing changes
+pub cut-none : (g : Group) → g ≡ cut 0 g
+cut-none g = sym (ap (λ (ms : List Member). record g { members = ms; log = drop 0 g.log }) (all-lowered-none g.members))
+
+-- ---- the least
+pub least_of-zero : (ms : List Member) → least_of 0 ms ≡ 0
+least_of-zero [] = refl
+least_of-zero (m ∷ ms) = let z : min 0 m.from ≡ 0 = omega arith in ap (λ n. least_of n ms) z ∙ least_of-zero ms

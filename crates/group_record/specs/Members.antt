@@ -27,10 +27,14 @@ from_in (Some m) = m.from
 abbrev pub from_of : List Member → Pid → ℕ
 from_of members p = from_in (member_of members p)
 
+-- the least of a number and of each `from`
+abbrev pub least_of : ℕ → List Member → ℕ
+least_of n ms = fold (λ least x. min least x.from) n ms
+
 -- the least `from`, or 0 with no member
 abbrev pub least_from : List Member → ℕ
 least_from [] = 0
-least_from (m ∷ ms) = fold (λ least x. min least x.from) m.from ms
+least_from (m ∷ ms) = least_of m.from ms
 
 abbrev pub lowered : ℕ → Member → Member
 lowered by m = record m { from = m.from - by }

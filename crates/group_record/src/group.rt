@@ -1,7 +1,7 @@
 // The record of a process group.
-ghost use Rattle.std.specs.Prelude.{◌≡◌, ◌≢◌, ◌≤◌, ◌++◌, [], ℕ, false, true, ◌↔◌, length, drop, All, IsTrue, IfOk, OnOk, OnErr};
+ghost use Rattle.std.specs.Prelude.{◌≡◌, ◌≢◌, ◌≤◌, ◌++◌, [], ℕ, false, true, ◌↔◌, length, drop, map, All, IsTrue, IfOk, OnOk, OnErr};
 ghost use Rattle.unix_names.specs.declared.Pid.{Pid};
-ghost use Rattle.group_record.specs.Members.{member_of, has_member, from_of};
+ghost use Rattle.group_record.specs.Members.{member_of, has_member, from_of, begun_at};
 ghost use Rattle.group_record.specs.Log.{log_part, told};
 ghost use Rattle.group_record.specs.Groups.{joined, left, with_entry, cut, trimmed, settled};
 
@@ -115,6 +115,10 @@ impl Group {
         requires { count ≤ length self.old.log }
         ensures { self.new ≡ cut count self.old }
     {
+        // Most decisions find nothing that every member has passed.
+        if count == 0 {
+            return;
+        }
         lower_each(self.members.as_mut_slice(), count);
         drop_front(&mut self.log, count as usize);
     }
@@ -126,14 +130,15 @@ impl Group {
         ensures others { (q : Pid) (u : ℕ) → q.0 ≢ p.0 → log_part q u self.new ≡ log_part q u self.old }
         ensures within { All (λ m. m.from ≤ length self.old.log) self.old.members → All (λ m. m.from ≤ length self.new.log) self.new.members }
     {
-        self.begin_at_end(p);
+        let end = self.log.len() as u64;
+        self.begin_at(end, p);
     }
 
-    fn begin_at_end(&mut self, p: Pid)
-        ensures { self.new ≡ settled self.old p }
+    /// A process's part of the log begins at this place, if it is a member. It takes no memory.
+    pub fn begin_at(&mut self, from: u64, p: Pid)
+        ensures { self.new ≡ record self.old { members = map (begun_at from p) self.old.members } }
     {
-        let end = self.log.len() as u64;
-        begin_at(self.members.as_mut_slice(), end, p);
+        begin_at(self.members.as_mut_slice(), from, p);
     }
 
     /// An equal record.

@@ -7,4 +7,5 @@ mod stages;
 mod worlds;
 
 pub use compiling::{Compiled, compile};
+pub use stages::{first_of, stages_of};
 pub use worlds::world_of;

@@ -1,7 +1,6 @@
 pub mod Universe
 pub mod Nearer
 pub mod AdvanceLaws
-pub mod ErrandLaws
 pub mod FirstLaws
 pub mod WantLaws
 pub mod TurnLaws

@@ -3,4 +3,3 @@ pub mod Turns
 pub mod Conditions
 pub mod Views
 pub mod First
-pub mod Errands

@@ -19,9 +19,6 @@ use std::mem;
 use unix_calls::{Entry, World};
 use unix_names::{NoMemory, NodeId, Seq};
 
-#[cfg(test)]
-mod tests;
-
 /// What a turn gives: the line of the history, if there is one, and the messages that it sends, in order.
 #[derive(Debug, Drop)]
 pub struct StepOut {

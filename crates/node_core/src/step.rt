@@ -83,10 +83,9 @@ fn gather(
 ) -> Result<Step, NoMemory>
     ensures { IfOk result (λ step. is_stepped state.new step ≡ needed state.old courier names.now) }
 {
-    if courier.has_all(names) {
+    let Some(name) = courier.least_lacking(names) else {
         return Ok(Step::Over(None));
-    }
-    let name = courier.next_want(names);
+    };
     if courier.must_restart(name) {
         restart(alloc, state, courier, names)
     } else {
@@ -110,33 +109,25 @@ fn ask_once<O: OpVector>(
     let Some(site) = site_of(state) else {
         return Err(NoMemory);
     };
-    let Courier {
-        image,
-        job,
-        wants,
-        mut bag,
-    } = courier;
-    match ops.decide(alloc, image.pid, &job, &image.own, &mut bag, site)? {
-        Outcome::Done(done) => Ok(Step::Over(state.finish(alloc, world, image, bag, done)?)),
+    let mut courier = courier;
+    let outcome = ops.decide(
+        alloc,
+        courier.image.pid,
+        &courier.job,
+        &courier.image.own,
+        &mut courier.bag,
+        site,
+    )?;
+    match outcome {
+        Outcome::Done(done) => {
+            let Courier { image, bag, .. } = courier;
+            Ok(Step::Over(state.finish(alloc, world, image, bag, done)?))
+        }
         Outcome::Away(node) => {
-            let courier = Courier {
-                image,
-                job,
-                wants,
-                bag,
-            };
             state.post(node.0, Message::Ride(courier))?;
             Ok(Step::Over(None))
         }
-        Outcome::Need(names) => {
-            let courier = Courier {
-                image,
-                job,
-                wants,
-                bag,
-            };
-            gather(alloc, state, courier, names.as_slice())
-        }
+        Outcome::Need(names) => gather(alloc, state, courier, names.as_slice()),
     }
 }
 

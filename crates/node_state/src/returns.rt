@@ -71,6 +71,12 @@ impl State {
         ensures { OnOk result (self.new ≡ laid self.old name held) }
     {
         let target = poked_at(&held);
+        if !self.slots.is_awaited(name) {
+            if self.slots.lay_alone(name, held)? {
+                return self.call(pid_named(name), target);
+            }
+            return Ok(());
+        }
         match self.slots.lay(name, held)? {
             PutBack::Rests { nudged: true } => self.call(pid_named(name), target),
             PutBack::Rests { nudged: false } => Ok(()),

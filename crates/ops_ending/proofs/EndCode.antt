@@ -1,10 +1,10 @@
 -- an end, as the code works it out on two bags, is the whole decision
-use Rattle.std.proofs.Common.{◌≡◌, ◌==◌, ◌&&◌, ◌<◌, ◌≤◌, ◌++◌, ℕ, get_or, Bool, true, false, cond, not, List, [], ◌∷◌, length, length-append, refl, sym, ap, ◌∙◌, subst, arith, Option, None, Some, IsSome, All, if◌then◌else◌}
-use Rattle.std.specs.Prelude.{filter, flat_map}
+use Rattle.std.proofs.Common.{◌≡◌, ◌==◌, ◌&&◌, ◌<◌, ◌≤◌, ◌++◌, ℕ, Bool, true, false, cond, not, List, [], ◌∷◌, length, length-append, refl, sym, ap, ◌∙◌, subst, arith, Option, None, Some, IsSome, All, if◌then◌else◌}
+use Rattle.std.specs.Prelude.{Result, Ok, Err, IfOk, OnOk, ◌-◌, filter, flat_map, take, slice_get}
 use Rattle.std.specs.Option.{option_map}
-use Rattle.std.proofs.lemmas.Option.{slice_get_read}
+use Rattle.std.proofs.lemmas.List.{take_at}
 use Rattle.std.proofs.lemmas.List.Elements.{All-nil, All-cons, All-head, All-tail, All-filter}
-use Rattle.list_laws.proofs.Filters.{some_same, map_same}
+use Rattle.list_laws.proofs.Filters.{some_same, map_same, map-map}
 use Rattle.unix_names.specs.declared.Pid.{Pid}
 use Rattle.unix_names.specs.declared.Name.{Name}
 use Rattle.unix_names.specs.declared.WaitStatus.{WaitStatus}
@@ -37,9 +37,10 @@ use Rattle.decide_law.proofs.Records.{only_same}
 use Rattle.decide_law.proofs.SettledFootprints.{seen}
 use Rattle.decide_law.proofs.Shell.{settled_agree, group_is}
 use Rattle.ops_ending.specs.Ending.{vanishes, goes, ended_vproc, end_effect, left_group, left_members, end_nudges, nudged_in}
-use Rattle.ops_ending.specs.Fitting.{IsFitting}
-use Rattle.ops_ending.proofs.BuiltTables.{entry_found}
-use Rattle.ops_ending.specs.MethodEnding.{IsCounted, IsCountedIn, IsLeft, held_group_by, nudged_by, nudges_in, end_answer}
+use Rattle.decide_law.specs.Vector.{IsFitting}
+use Rattle.ops_ending.specs.declared.left_vprocs.End.{End}
+use Rattle.ops_ending.specs.MethodEnding.{IsCounted, IsCountedIn, IsLeft, end_of, entries_by, held_told_by, held_untold_by, held_thinned_by, held_group_by, nudged_by, nudges_in, end_answer}
+use Rattle.ops_ending.proofs.Partly.{entry_found}
 
 -- ---- children
 pub children_left : (p : Pid) (vanished : Bool) (cs : List Pid) → filter (λ c. not ((c.0 == p.0) && vanished)) cs ≡ (if vanished then without p cs else cs)
@@ -65,45 +66,54 @@ few_pass test (x ∷ xs) = go (test x) (few_pass test xs)
     go true h = omega arith
     go false h = omega arith
 
--- ---- records of groups: on these two bags they are those of the definition
-group_same : (bag : Bag) (w : WaitStatus) (p parent : Pid) (children : List Pid) (vanished : Bool) (session id : Pid) (rest : List (Entry (Option Group))) (h : Option Group) →
-    held_group_by bag (record { vprocs = with_each (ended_vproc p vanished w) bag.vprocs; groups = rest }) (p ∷ children) p parent vanished id h ≡ regroups session (left_group bag w p parent children vanished) id h
-group_same bag w p parent children vanished session id rest None = refl
-group_same bag w p parent children vanished session id rest (Some g) = refl
+-- ---- records of groups: they are those of the definition
+group_same : (bag : Bag) (w : WaitStatus) (p parent : Pid) (children : List Pid) (vanished : Bool) (session id : Pid) (h : Option Group) →
+    held_group_by bag (p ∷ children) (record { pid = p; parent = parent; vanishes = vanished; status = w }) id h ≡ regroups session (left_group bag w p parent children vanished) id h
+group_same bag w p parent children vanished session id None = refl
+group_same bag w p parent children vanished session id (Some g) = refl
 
-pub groups_same : (bag later : Bag) (w : WaitStatus) (p parent : Pid) (children near : List Pid) (vanished : Bool) (session : Pid) → later.vprocs ≡ with_each (ended_vproc p vanished w) bag.vprocs → near ≡ p ∷ children →
-    with_each (held_group_by bag later near p parent vanished) bag.groups ≡ with_each (regroups session (left_group bag w p parent children vanished)) bag.groups
-groups_same bag later w p parent children near vanished session is around =
-    ap (λ (vs : List (Entry (Option Vproc))). with_each (held_group_by bag (record { vprocs = vs; groups = later.groups }) near p parent vanished) bag.groups) is
-    ∙ ap (λ (l : List Pid). with_each (held_group_by bag (record { vprocs = with_each (ended_vproc p vanished w) bag.vprocs; groups = later.groups }) l p parent vanished) bag.groups) around
-    ∙ map_same _ _ (λ (e : Entry (Option Group)). ap (λ (h : Option Group). let entry : Entry (Option Group) = record { pid = e.pid; value = h } in entry) (group_same bag w p parent children vanished session e.pid later.groups e.value)) bag.groups
+groups_same : (bag : Bag) (w : WaitStatus) (v : Vproc) (session : Pid) → with_each (held_group_by bag (v.pid ∷ v.children) (end_of bag v w)) bag.groups ≡ with_each (regroups session (left_group bag w v.pid v.parent v.children (vanishes bag v))) bag.groups
+groups_same bag w v session = map_same _ _ (λ (e : Entry (Option Group)). ap (λ (h : Option Group). let entry : Entry (Option Group) = record { pid = e.pid; value = h } in entry) (group_same bag w v.pid v.parent v.children (vanishes bag v) session e.pid e.value)) bag.groups
+
+-- the two passes over the groups are one
+pub two_passes : (bag : Bag) (near : List Pid) (e : End) (gs : List (Entry (Option Group))) → with_each (held_thinned_by bag near e) (with_each (held_told_by bag near e) gs) ≡ with_each (held_group_by bag near e) gs
+two_passes bag near e gs = map-map _ _ gs
 
 -- ---- nudges
 flat_same : {X Y : Type 0} (f g : X → List Y) (xs : List X) → ((x : X) → f x ≡ g x) → flat_map f xs ≡ flat_map g xs
 flat_same f g [] e = refl
 flat_same f g (x ∷ xs) e = ap (λ l. l ++ flat_map f xs) (e x) ∙ ap (λ l. g x ++ l) (flat_same f g xs e)
 
-nudged_same : (bag : Bag) (w : WaitStatus) (p : Pid) (children : List Pid) (vanished : Bool) (id : Pid) (rest : List (Entry (Option Group))) (h : Option Group) →
-    nudged_by bag (record { vprocs = with_each (ended_vproc p vanished w) bag.vprocs; groups = rest }) (p ∷ children) p vanished id h ≡ nudged_in bag w p children vanished id h
-nudged_same bag w p children vanished id rest None = refl
-nudged_same bag w p children vanished id rest (Some g) = refl
+nudged_same : (bag : Bag) (w : WaitStatus) (p parent : Pid) (children : List Pid) (vanished : Bool) (id : Pid) (h : Option Group) →
+    nudged_by bag (p ∷ children) (record { pid = p; parent = parent; vanishes = vanished; status = w }) id h ≡ nudged_in bag w p children vanished id h
+nudged_same bag w p parent children vanished id None = refl
+nudged_same bag w p parent children vanished id (Some g) = refl
 
-pub nudges_same : (bag later : Bag) (w : WaitStatus) (p parent : Pid) (children near : List Pid) (vanished : Bool) → later.vprocs ≡ with_each (ended_vproc p vanished w) bag.vprocs → near ≡ p ∷ children →
-    (if parent.0 == 1 then [] else parent ∷ []) ++ nudges_in bag later near p vanished bag.groups ≡ end_nudges bag w p parent children vanished
-nudges_same bag later w p parent children near vanished is around =
-    ap (λ (l : List Pid). (if parent.0 == 1 then [] else parent ∷ []) ++ l)
-    (ap (λ (vs : List (Entry (Option Vproc))). nudges_in bag (record { vprocs = vs; groups = later.groups }) near p vanished bag.groups) is
-    ∙ ap (λ (l : List Pid). nudges_in bag (record { vprocs = with_each (ended_vproc p vanished w) bag.vprocs; groups = later.groups }) l p vanished bag.groups) around
-    ∙ flat_same _ _ bag.groups (λ (h : Entry (Option Group)). nudged_same bag w p children vanished h.pid later.groups h.value))
+nudges_same : (bag : Bag) (w : WaitStatus) (v : Vproc) → (if v.parent.0 == 1 then [] else v.parent ∷ []) ++ nudges_in bag (v.pid ∷ v.children) (end_of bag v w) bag.groups ≡ end_nudges bag w v.pid v.parent v.children (vanishes bag v)
+nudges_same bag w v = ap (λ (l : List Pid). (if v.parent.0 == 1 then [] else v.parent ∷ []) ++ l) (flat_same _ _ bag.groups (λ (h : Entry (Option Group)). nudged_same bag w v.pid v.parent v.children (vanishes bag v) h.pid h.value))
 
--- what the code makes of the two bags is what the end leaves
-pub left_is : (bag later : Bag) (v : Vproc) (w : WaitStatus) (vanished : Bool) (near nudges : List Pid) (groups : List (Entry (Option Group))) → vanished ≡ vanishes bag v → near ≡ v.pid ∷ v.children → later.vprocs ≡ with_each (ended_vproc v.pid vanished w) bag.vprocs →
-    nudges ≡ (if v.parent.0 == 1 then [] else v.parent ∷ []) ++ nudges_in bag later near v.pid vanished bag.groups → groups ≡ with_each (held_group_by bag later near v.pid v.parent vanished) bag.groups → IsLeft bag v w (record later { groups = groups }) nudges
-left_is bag later v w vanished near nudges groups vanish around vs ns gs = record {
-  vprocs = vs ∙ ap (λ (b : Bool). with_each (ended_vproc v.pid b w) bag.vprocs) vanish;
-  groups = gs ∙ groups_same bag later w v.pid v.parent v.children near vanished v.session vs around ∙ ap (λ (b : Bool). with_each (regroups v.session (left_group bag w v.pid v.parent v.children b)) bag.groups) vanish;
-  nudged = ns ∙ nudges_same bag later w v.pid v.parent v.children near vanished vs around ∙ ap (end_nudges bag w v.pid v.parent v.children) vanish;
+-- what the code makes of the bag is what the end leaves
+pub left_is : (bag left : Bag) (v : Vproc) (w : WaitStatus) (near nudges : List Pid) (e : End) → e ≡ end_of bag v w → near ≡ v.pid ∷ v.children → left.vprocs ≡ with_each (ended_vproc e.pid e.vanishes e.status) bag.vprocs →
+    left.groups ≡ with_each (held_group_by bag near e) bag.groups → nudges ≡ (if e.parent.0 == 1 then [] else e.parent ∷ []) ++ nudges_in bag near e bag.groups → IsLeft bag v w left nudges
+left_is bag left v w near nudges e end around vs gs ns = record {
+  vprocs = vs ∙ ap (λ (x : End). with_each (ended_vproc x.pid x.vanishes x.status) bag.vprocs) end;
+  groups = gs ∙ ap (λ (x : End). with_each (held_group_by bag near x) bag.groups) end ∙ ap (λ (l : List Pid). with_each (held_group_by bag l (end_of bag v w)) bag.groups) around ∙ groups_same bag w v v.session;
+  nudged = ns ∙ ap (λ (x : End). (if x.parent.0 == 1 then [] else x.parent ∷ []) ++ nudges_in bag near x bag.groups) end ∙ ap (λ (l : List Pid). (if v.parent.0 == 1 then [] else v.parent ∷ []) ++ nudges_in bag l (end_of bag v w) bag.groups) around ∙ nudges_same bag w v;
 }
+
+-- where each of its parts is what it is to be
+pub left_ok : {E : Type 0} (bag left : Bag) (v : Vproc) (w : WaitStatus) (near : List Pid) (e : End) (r : Result (List Pid) E) → e ≡ end_of bag v w → near ≡ v.pid ∷ v.children → IfOk r (λ nudges. nudges ≡ (if e.parent.0 == 1 then [] else e.parent ∷ []) ++ nudges_in bag near e bag.groups) →
+    OnOk r (left.vprocs ≡ with_each (ended_vproc e.pid e.vanishes e.status) bag.vprocs) → OnOk r (left.groups ≡ with_each (held_group_by bag near e) bag.groups) → IfOk r (IsLeft bag v w left)
+left_ok bag left v w near e (Ok nudges) end around ns vs gs = left_is bag left v w near nudges e end around vs gs ns
+left_ok bag left v w near e (Err refused) end around ns vs gs = tt
+
+-- ---- logs that are cut back
+cut_back : {X : Type 0} (xs ys : List X) → take (length (xs ++ ys) - length ys) (xs ++ ys) ≡ xs
+cut_back xs ys = take_at xs ys _ (let long = length-append xs ys in omega arith)
+
+pub told_and_untold : (bag : Bag) (near : List Pid) (e : End) (id : Pid) (h : Option Group) → held_untold_by bag near e id (held_told_by bag near e id h) ≡ h
+told_and_untold bag near e id None = refl
+told_and_untold bag near e id (Some g) = ap (λ (l : List LogEntry). Some (record g { log = l })) (cut_back g.log (entries_by bag near e id g))
 
 -- ---- what is counted is small
 counted_group : (rows : List Row) (id : Pid) (g : Group) → length rows < 1000000 → IsGroupOf rows id g → IsCounted g
@@ -128,10 +138,18 @@ pub settled_counted : (p id : Pid) (own : Own) (bag settled : Bag) → IsFitting
 settled_counted p id own bag settled fit was q =
     subst (λ (b : Bag). IsCountedIn (group_in b q)) (sym was) (counted_by_id fit.fits.rows (settled_in p id bag) q fit.fits.asks.few (settled_agree fit.fits.rows p id bag fit.fits.asks.agrees))
 
--- each entry of the table of groups is found under its id
-pub counted_entry : (bag : Bag) (es : List (Entry (Option Group))) (i : ℕ) (e : Entry (Option Group)) → es ≡ bag.groups → IsRising es → i < length es → e ≡ get_or es i e → ((id : Pid) → IsCountedIn (group_in bag id)) → IsCountedIn e.value
-counted_entry bag es i e is r lt got counted =
-    subst IsCountedIn (ap (λ (l : List (Entry (Option Group))). present (value_at l e.pid)) (sym is) ∙ ap present (entry_found es i e r (slice_get_read es (length es) i e refl lt got))) (counted e.pid)
+-- each entry of a table of groups is found under its id
+pub counted_entry : (es : List (Entry (Option Group))) (i : ℕ) (e : Entry (Option Group)) → IsRising es → slice_get es i ≡ Some e → ((id : Pid) → IsCountedIn (present (value_at es id))) → IsCountedIn e.value
+counted_entry es i e r got counted = subst IsCountedIn (ap present (entry_found es i e r got)) (counted e.pid)
+
+-- logs have nothing to do with counts
+pub told_counted : (bag : Bag) (near : List Pid) (e : End) (es : List (Entry (Option Group))) (id : Pid) → IsCountedIn (present (value_at es id)) → IsCountedIn (present (value_at (with_each (held_told_by bag near e) es) id))
+told_counted bag near e es id counted = subst (λ (o : Option (Option Group)). IsCountedIn (present o)) (sym (with_each-at (held_told_by bag near e) es id)) (go (value_at es id) counted)
+  where
+    go : (o : Option (Option Group)) → IsCountedIn (present o) → IsCountedIn (present (option_map (held_told_by bag near e id) o))
+    go None k = k
+    go (Some None) k = k
+    go (Some (Some g)) k = record { links = k.links; stopped = k.stopped }
 
 -- ---- the caller's group is held, and its members' parts begin within its log
 abbrev Within : Group → Type 0
@@ -192,14 +210,13 @@ end_done e w p id own taken bag settled wrote left v g nudges o at was took ends
     (out ∙ ap (λ (x : Own). outcome.Done (record { entry = Some e; own = x; phase = phase.Gone; born = None; nudges = nudges })) took ∙ ap (λ (l : List Pid). outcome.Done (record { entry = Some e; own = folded own v g; phase = phase.Gone; born = None; nudges = l })) ends.nudged)
     ∙ ap (λ (b : Bag). done_by p v bag (end_effect b sig (emptied v) e w)) was
 
--- on a copy of the bag
-pub end_whole : (e : History) (w : WaitStatus) (p : Pid) (own : Own) (bag copy left : Bag) (base : HasBase own p bag) (names : List Name) (o : Outcome) → names ≡ wanted bag (end_footprint bag base.vproc) [] → is_none names ≡ true → copy ≡ bag →
-    ((v : Vproc) (g : Group) → vproc_at copy p ≡ Some (Some v) → group_at copy v.group ≡ Some (Some g) → answered o left ≡ done_by p v copy (end_effect (settled_in p v.group copy) (folded own v g).sig (emptied v) e w)) →
-    answered o left ≡ on_base (end_answer e w own bag p) p bag
-end_whole e w p own bag copy left base names o is none same done =
+-- where nothing lacks
+pub end_whole : {E : Type 0} (e : History) (w : WaitStatus) (p : Pid) (own : Own) (bag left : Bag) (base : HasBase own p bag) (names : List Name) (r : Result Outcome E) → names ≡ wanted bag (end_footprint bag base.vproc) [] → is_none names ≡ true →
+    IfOk r (λ o. answered o left ≡ done_by p base.vproc bag (end_effect (settled_in p base.vproc.group bag) (folded own base.vproc base.group).sig (emptied base.vproc) e w)) → IfOk r (λ o. answered o left ≡ on_base (end_answer e w own bag p) p bag)
+end_whole e w p own bag left base names (Err refused) is none done = tt
+end_whole e w p own bag left base names (Ok o) is none done =
     let v = base.vproc in
     let g = base.group in
-    done v g (ap (λ (b : Bag). vproc_at b p) same ∙ base.vproc_is) (ap (λ (b : Bag). group_at b v.group) same ∙ base.group_is)
-    ∙ ap (λ (b : Bag). done_by p v b (end_effect (settled_in p v.group b) (folded own v g).sig (emptied v) e w)) same
+    done
     ∙ all_held (end_footprint bag v) names p v bag (end_effect (settled_in p v.group bag) (folded own v g).sig (emptied v) e w) is none
     ∙ sym (base_answer (end_answer e w own bag p) p bag v g base.vproc_is base.group_is)

@@ -8,6 +8,7 @@ pub mod Nudges
 pub mod Whole
 pub mod Steps
 pub mod Killed
-pub mod BuiltTables
+pub mod LaterRecords
+pub mod Partly
 pub mod EndCode
 pub mod EndParts

@@ -1,16 +1,14 @@
 // The records of processes that an end leaves.
-ghost use Rattle.std.specs.Prelude.{◌≡◌, ◌==◌, IfOk};
+ghost use Rattle.std.specs.Prelude.{◌≡◌, ◌==◌, ◌<◌, length};
 ghost use Rattle.record_bag.specs.Bags.{vproc_in};
 ghost use Rattle.ordered_table.specs.Entries.{with_each};
 ghost use Rattle.decide_law.specs.Counts.{passes};
 ghost use Rattle.ops_ending.specs.Ending.{vanishes, goes, left_vproc, ended_vproc};
-ghost use Rattle.ops_ending.specs.MethodEnding.{own_left, adopted};
+ghost use Rattle.ops_ending.specs.MethodEnding.{own_left, adopted, end_of, IsChangedAt};
 
-use crate::copies::put;
 use ordered_table::Table;
 use record_bag::Bag;
-use std::alloc::Global;
-use unix_names::{Life, NoMemory, Pid, WaitStatus, is_living};
+use unix_names::{Life, Pid, WaitStatus, is_living};
 use vproc_record::{Children, Vproc};
 
 /// The end of a process: who ends, who its parent is, whether nobody waits for it, and with which status it ends.
@@ -22,8 +20,8 @@ pub struct End {
     pub status: WaitStatus,
 }
 
-/// Whether nobody waits for a process: its parent is the system process, or ignores the signal of a child's end.
-pub fn vanishes(bag: &Bag, v: &Vproc) -> bool
+// Whether nobody waits for a process: its parent is the system process, or ignores the signal of a child's end.
+fn vanishes(bag: &Bag, v: &Vproc) -> bool
     ensures { result ≡ vanishes bag.now v.now }
 {
     if v.parent.0 == 1 {
@@ -35,19 +33,34 @@ pub fn vanishes(bag: &Bag, v: &Vproc) -> bool
     }
 }
 
-fn is_itself(end: End, v: &Vproc) -> bool
+/// The end of the process with this record.
+pub fn end_of(bag: &Bag, v: &Vproc, status: WaitStatus) -> End
+    ensures { result ≡ end_of bag.now v.now status }
+{
+    End {
+        pid: v.pid,
+        parent: v.parent,
+        vanishes: vanishes(bag, v),
+        status,
+    }
+}
+
+/// Whether the record is that of the process itself.
+pub fn is_itself(end: End, v: &Vproc) -> bool
     ensures { result ≡ (v.now.pid.0 == end.pid.0) }
 {
     v.pid == end.pid
 }
 
-fn is_child(end: End, v: &Vproc) -> bool
+/// Whether the record is that of a child.
+pub fn is_child(end: End, v: &Vproc) -> bool
     ensures { result ≡ (v.now.parent.0 == end.pid.0) }
 {
     v.parent == end.pid
 }
 
-fn goes(end: End, v: &Vproc) -> bool
+/// Whether a record goes with this end.
+pub fn goes(end: End, v: &Vproc) -> bool
     ensures { result ≡ goes end.pid end.vanishes v.now }
 {
     (is_itself(end, v) && end.vanishes) || (is_child(end, v) && !is_living(v.life))
@@ -93,31 +106,34 @@ fn leave(end: End, v: &mut Vproc)
     adopt(end, v);
 }
 
-fn left_of(end: End, held: &Option<Vproc>) -> Result<Option<Vproc>, NoMemory>
-    ensures { IfOk result (λ later. later ≡ ended_vproc end.pid end.vanishes end.status end.pid held.now) }
+fn left_of(end: End, held: Option<Vproc>) -> Option<Vproc>
+    ensures { result ≡ ended_vproc end.pid end.vanishes end.status end.pid held }
 {
     match held {
-        Some(v) if !goes(end, v) => {
-            let mut later = v.copy()?;
-            leave(end, &mut later);
-            Ok(Some(later))
+        None => None,
+        Some(mut v) => {
+            if goes(end, &v) {
+                return None;
+            }
+            leave(end, &mut v);
+            Some(v)
         }
-        _ => Ok(None),
     }
 }
 
-/// What is held of processes once this one has ended, under the same ids.
-pub fn left_vprocs(
-    alloc: Global,
-    end: End,
-    vprocs: &Table<Option<Vproc>>,
-) -> Result<Table<Option<Vproc>>, NoMemory>
-    ensures { IfOk result (λ later. later ≡ with_each (ended_vproc end.pid end.vanishes end.status) vprocs.now) }
+fn leave_at(end: End, vprocs: &mut Table<Option<Vproc>>, at: usize)
+    requires { at < length vprocs.old }
+    ensures { IsChangedAt (ended_vproc end.pid end.vanishes end.status) at vprocs.old vprocs.new }
 {
-    let mut later = Table::new(alloc);
-    for held in vprocs.as_slice() {
-        let left = left_of(end, &held.value)?;
-        put(&mut later, held.pid, left)?;
+    let held = vprocs.replace_at(at, None);
+    vprocs.replace_at(at, left_of(end, held));
+}
+
+/// Each record of a process becomes what the end leaves of it. It takes no memory.
+pub fn leave_vprocs(end: End, vprocs: &mut Table<Option<Vproc>>)
+    ensures { vprocs.new ≡ with_each (ended_vproc end.pid end.vanishes end.status) vprocs.old }
+{
+    for at in 0..vprocs.len() {
+        leave_at(end, vprocs, at);
     }
-    Ok(later)
 }

@@ -3,9 +3,9 @@
 
 ghost use Rattle.ops_ending.specs.Laws.{ExitIsStep, KilledIsRight};
 
-mod copies;
 mod end_names;
 mod ending;
+mod later;
 mod left_groups;
 mod left_vprocs;
 mod told;

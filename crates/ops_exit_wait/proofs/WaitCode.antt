@@ -49,7 +49,7 @@ use Rattle.decide_law.proofs.PutBack.{base_emptied}
 use Rattle.decide_law.proofs.RoundParts.{parts_whole}
 use Rattle.decide_law.proofs.SettledFootprints.{lacking_same, wait_footprint_same}
 use Rattle.decide_law.proofs.Shell.{settled_agree}
-use Rattle.ops_ending.specs.Fitting.{IsFitting}
+use Rattle.decide_law.specs.Vector.{IsFitting}
 use Rattle.ops_exit_wait.specs.declared.findings.Found.{Found}
 use Rattle.ops_exit_wait.specs.declared.findings.Found.TheVariants.{NoChild, Nothing, Change, End}
 use Rattle.ops_exit_wait.specs.Waitpid.{leaves, has_match, tell, take, report, report_first, wait_effect}

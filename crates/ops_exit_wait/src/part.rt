@@ -4,7 +4,7 @@ ghost use Rattle.unix_calls.specs.Calls.{HasNames};
 ghost use Rattle.record_bag.specs.Decisions.{answered};
 ghost use Rattle.decide_law.specs.Base.{HasBase};
 ghost use Rattle.decide_law.specs.Parts.{decide_by};
-ghost use Rattle.ops_ending.specs.Fitting.{IsFitting};
+ghost use Rattle.decide_law.specs.Vector.{IsFitting};
 ghost use Rattle.ops_exit_wait.specs.Decide.{IsExitWaitCall, effect_of};
 
 use crate::new_program::decide_exec;

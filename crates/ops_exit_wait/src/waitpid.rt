@@ -6,7 +6,7 @@ ghost use Rattle.unix_calls.specs.Calls.{IsName};
 ghost use Rattle.record_bag.specs.Decisions.{answered};
 ghost use Rattle.decide_law.specs.Base.{HasBase};
 ghost use Rattle.decide_law.specs.Parts.{decide_by};
-ghost use Rattle.ops_ending.specs.Fitting.{IsFitting};
+ghost use Rattle.decide_law.specs.Vector.{IsFitting};
 ghost use Rattle.ops_exit_wait.specs.MethodWaitpid.{reply_by};
 ghost use Rattle.ops_exit_wait.specs.Decide.{effect_of};
 

@@ -7,6 +7,7 @@ pub mod Setsid
 pub mod LookSteps
 pub mod LookCode
 pub mod Steps
-pub mod BuiltTables
+pub mod CountedTables
+pub mod JoinedCode
 pub mod MovedCode
 pub mod ChangeCode

@@ -5,4 +5,3 @@ pub mod Lookups
 pub mod Decide
 pub mod Setsid
 pub mod MethodMove
-pub mod Fitting

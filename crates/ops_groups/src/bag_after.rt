@@ -1,159 +1,23 @@
-// The records once a process has gone to another group. The counts are told from the records before it and those of processes after it.
-ghost use Rattle.std.specs.Prelude.{◌≡◌, ◌+◌, ◌-◌, ◌<◌, ◌≤◌, ◌^◌, ◌++◌, ◌∷◌, length, IfOk, OnOk};
-ghost use Rattle.std.specs.Option.{option_map};
+// The records once a process has gone to another group, changed in place.
+ghost use Rattle.std.specs.Prelude.{◌≡◌, ◌≤◌, Some, IsSome, OnOk, OnErr, length};
 ghost use Rattle.unix_names.specs.declared.Pid.{Pid as ThePid};
-ghost use Rattle.sig_stream.specs.Streams.{signals_for};
-ghost use Rattle.ordered_table.specs.Entries.{with_each};
-ghost use Rattle.record_bag.specs.Bags.{group_in};
-ghost use Rattle.process_table.specs.Rows.{is_same};
-ghost use Rattle.decide_law.specs.Counts.{recounted};
-ghost use Rattle.decide_law.specs.Effects.{only, or_empty, unless_empty};
-ghost use Rattle.ops_groups.specs.Move.{moved_vproc, moved_members};
-ghost use Rattle.ops_groups.specs.MethodMove.{in_session, IsCounted, IsCountedIn, held_group_by, moved_bag};
+ghost use Rattle.group_record.specs.declared.Group.{Group as TheGroup};
+ghost use Rattle.ordered_table.specs.Entries.{value_at};
+ghost use Rattle.record_bag.specs.Bags.{present, group_in};
+ghost use Rattle.vproc_record.specs.declared.Vproc.{Vproc as TheVproc};
+ghost use Rattle.decide_law.specs.Effects.{unless_empty};
+ghost use Rattle.ops_groups.specs.MethodMove.{in_session, mover_of, IsCountedIn, regrouped_by, with_counts, group_settled, moved_bag};
 
-use crate::copies::put;
-use decide_law::{count_links, count_stopped};
-use group_record::{Group, LogEntry, Member};
+use crate::joining::join;
+use crate::mover::{Mover, Place};
+use crate::settling::{Caller, settle_group};
+use crate::tallies::{Counts, counts_by_group, recount};
+use group_record::Group;
 use ordered_table::Table;
 use record_bag::Bag;
 use std::alloc::Global;
-use unix_names::{NoMemory, Pid, Seq, Signal};
-use vproc_record::Vproc;
-
-/// Where a process goes: a group, and the session that it is of.
-#[derive(Clone, Copy, Debug, PartialEq, Eq)]
-pub struct Place {
-    pub group: Pid,
-    pub session: Pid,
-}
-
-// ---- records of processes
-fn take_part(
-    backlog: &mut Seq<Signal>,
-    entries: &[LogEntry],
-    p: Pid,
-    uid: u32,
-) -> Result<(), NoMemory>
-    ensures { OnOk result (backlog.new ≡ backlog.old ++ signals_for p uid entries.now) }
-{
-    for e in entries {
-        if e.concerns(p, uid) {
-            backlog.push(e.signal)?;
-        }
-    }
-    Ok(())
-}
-
-// What the old log has for the process goes to its backlog.
-fn go(v: &mut Vproc, old: &Group, to: Place) -> Result<(), NoMemory>
-    ensures { OnOk result (v.new ≡ moved_vproc old.now (in_session to) v.old) }
-{
-    let pid = v.pid;
-    let uid = v.uid;
-    take_part(&mut v.backlog, old.part_of(pid), pid, uid)?;
-    v.group = to.group;
-    v.session = to.session;
-    Ok(())
-}
-
-fn moved_vproc(
-    mover: Pid,
-    old: &Group,
-    to: Place,
-    q: Pid,
-    held: &Option<Vproc>,
-) -> Result<Option<Vproc>, NoMemory>
-    ensures { IfOk result (λ moved. moved ≡ only mover (option_map (moved_vproc old.now (in_session to))) q held.now) }
-{
-    let Some(v) = held else {
-        return Ok(None);
-    };
-    let mut moved = v.copy()?;
-    if q == mover {
-        go(&mut moved, old, to)?;
-    }
-    Ok(Some(moved))
-}
-
-fn moved_vprocs(
-    alloc: Global,
-    mover: Pid,
-    old: &Group,
-    to: Place,
-    vprocs: &Table<Option<Vproc>>,
-) -> Result<Table<Option<Vproc>>, NoMemory>
-    ensures { IfOk result (λ later. later ≡ with_each (only mover (option_map (moved_vproc old.now (in_session to)))) vprocs.now) }
-{
-    let mut later = Table::new(alloc);
-    for held in vprocs.as_slice() {
-        let moved = moved_vproc(mover, old, to, held.pid, &held.value)?;
-        put(&mut later, held.pid, moved)?;
-    }
-    Ok(later)
-}
-
-// ---- records of groups
-// The process, and then its children: of these alone the counts may change.
-fn near_of(alloc: Global, v: &Vproc) -> Result<Seq<Pid>, NoMemory>
-    ensures near { IfOk result (λ near. near ≡ v.now.pid ∷ v.now.children) }
-    ensures few { IfOk result (λ near. length near ≤ 65) }
-{
-    let mut near = Seq::new(alloc);
-    near.push(v.pid)?;
-    near.extend_from_slice(v.children.as_slice())?;
-    Ok(near)
-}
-
-// A count, with so many more and so many fewer.
-fn counted(count: u32, more: usize, fewer: usize) -> u32
-    requires { count + more < 2 ^ 32 }
-    ensures { result ≡ (count + more) - fewer }
-{
-    (count as u64 + more as u64).saturating_sub(fewer as u64) as u32
-}
-
-fn recount(before: &Bag, later: &Bag, near: &[Pid], id: Pid, g: &mut Group)
-    requires near { length near.now ≤ 65 }
-    requires counted { IsCounted g.old }
-    ensures { g.new ≡ recounted before.now later.now near.now id g.old }
-{
-    let linked = count_links(later, id, near);
-    g.links = counted(g.links, linked, count_links(before, id, near));
-    let stopped = count_stopped(later, id, near);
-    g.stopped = counted(g.stopped, stopped, count_stopped(before, id, near));
-}
-
-// The process leaves the group, or joins it last.
-fn change_members(u: &Vproc, to: Place, id: Pid, g: &mut Group) -> Result<(), NoMemory>
-    ensures { OnOk result (g.new ≡ record g.old { members = moved_members (is_same to.group id) u.now g.old }) }
-{
-    g.leave(u.pid);
-    if to.group == id {
-        let from = g.log.len() as u64;
-        g.members.push(Member {
-            pid: u.pid,
-            from,
-            uid: u.uid,
-        })?;
-    }
-    Ok(())
-}
-
-fn or_empty(alloc: Global, id: Pid, session: Pid, held: &Option<Group>) -> Result<Group, NoMemory>
-    ensures { IfOk result (λ g. g ≡ or_empty id session held.now) }
-{
-    match held {
-        Some(g) => g.copy(),
-        None => Ok(Group {
-            id,
-            session,
-            members: Seq::new(alloc),
-            log: Seq::new(alloc),
-            links: 0,
-            stopped: 0,
-        }),
-    }
-}
+use std::mem;
+use unix_names::{NoMemory, Pid};
 
 // A group without members is absent.
 fn unless_empty(g: Group) -> Option<Group>
@@ -162,68 +26,82 @@ fn unless_empty(g: Group) -> Option<Group>
     if g.is_empty() { None } else { Some(g) }
 }
 
-fn moved_group(
-    alloc: Global,
-    before: &Bag,
+// A group once the process has joined the new one: it leaves this one, unless it is that.
+fn regrouped(
     later: &Bag,
-    near: &[Pid],
-    u: &Vproc,
-    to: Place,
+    m: &Mover,
+    to: Pid,
+    before: Counts,
     id: Pid,
-    held: &Option<Group>,
-) -> Result<Option<Group>, NoMemory>
-    requires near { length near.now ≤ 65 }
-    requires counted { IsCountedIn held.now }
-    ensures { IfOk result (λ moved. moved ≡ held_group_by before.now later.now near.now u.now (in_session to) id held.now) }
+    held: Option<Group>,
+) -> Option<Group>
+    requires near { length m.now.near ≤ 65 }
+    requires counted { IsCountedIn held }
+    ensures { result ≡ regrouped_by before later.now m.now to id held }
 {
-    let mut g = or_empty(alloc, id, to.session, held)?;
-    recount(before, later, near, id, &mut g);
-    change_members(u, to, id, &mut g)?;
-    Ok(unless_empty(g))
-}
-
-fn moved_groups(
-    alloc: Global,
-    before: &Bag,
-    later: &Bag,
-    near: &[Pid],
-    u: &Vproc,
-    to: Place,
-) -> Result<Table<Option<Group>>, NoMemory>
-    requires near { length near.now ≤ 65 }
-    requires counted { (id : ThePid) → IsCountedIn (group_in before.now id) }
-    ensures { IfOk result (λ moved. moved ≡ with_each (held_group_by before.now later.now near.now u.now (in_session to)) before.now.groups) }
-{
-    let mut groups = Table::new(alloc);
-    for held in before.groups.as_slice() {
-        let moved = moved_group(alloc, before, later, near, u, to, held.pid, &held.value)?;
-        put(&mut groups, held.pid, moved)?;
+    let Some(mut g) = held else {
+        return None;
+    };
+    recount(later, m.near.as_slice(), before, id, &mut g);
+    if to != id {
+        g.leave(m.pid);
     }
-    Ok(groups)
+    unless_empty(g)
 }
 
-/// The bag once a process has gone from its old group to this place, under the same names: its own record, and those of the groups with their members and counts.
+// One group after another. What processes have become is told by the later bag, whose groups are not looked at.
+fn regroup_each(
+    later: &Bag,
+    m: &Mover,
+    to: Pid,
+    before: &[Counts],
+    groups: &mut Table<Option<Group>>,
+)
+    requires near { length m.now.near ≤ 65 }
+    requires counted { (id : ThePid) → IsCountedIn (present (value_at groups.old id)) }
+    requires each { length before.now ≡ length groups.old }
+    ensures { groups.new ≡ with_counts (λ counts. regrouped_by counts later.now m.now to) before.now groups.old }
+{
+    for at in 0..groups.as_slice().len() {
+        let id = groups.as_slice()[at].pid;
+        let held = groups.replace_at(at, None);
+        let left = regrouped(later, m, to, before[at], id, held);
+        groups.replace_at(at, left);
+    }
+}
+
+// Each group that is held, once the process has joined the new one.
+fn regroup(alloc: Global, m: &Mover, to: Pid, before: &[Counts], bag: &mut Bag)
+    requires near { length m.now.near ≤ 65 }
+    requires counted { (id : ThePid) → IsCountedIn (group_in bag.old id) }
+    requires each { length before.now ≡ length bag.old.groups }
+    ensures { bag.new ≡ record bag.old { groups = with_counts (λ counts. regrouped_by counts bag.old m.now to) before.now bag.old.groups } }
+{
+    let mut groups = mem::replace(&mut bag.groups, Table::new(alloc));
+    regroup_each(bag, m, to, before, &mut groups);
+    bag.groups = groups;
+}
+
+/// A process goes from its old group to this place, and the caller has taken its part of the log of its group: the record of the process changes, and those of the groups with their members and counts.
 ///
 /// # Errors
-/// NoMemory where there is no room for the records.
-pub fn moved_bag(
+/// NoMemory where there is no room for the counts, the signals or the member; the bag is as before.
+pub fn move_in(
     alloc: Global,
-    before: &Bag,
-    u: &Vproc,
-    old: &Group,
+    by: Caller,
+    m: &Mover,
     to: Place,
-) -> Result<Bag, NoMemory>
-    requires { (id : ThePid) → IsCountedIn (group_in before.now id) }
-    ensures { IfOk result (λ left. left ≡ moved_bag before.now u.now old.now (in_session to)) }
+    bag: &mut Bag,
+) -> Result<(), NoMemory>
+    requires near { length m.now.near ≤ 65 }
+    requires old { IsSome (group_in bag.old m.now.group) }
+    requires counted { (id : ThePid) → IsCountedIn (group_in bag.old id) }
+    ensures ok { (u : TheVproc) (old : TheGroup) → m.now ≡ mover_of u → group_in (group_settled by.pid by.group bag.old) u.group ≡ Some old → OnOk result (bag.new ≡ moved_bag (group_settled by.pid by.group bag.old) u old (in_session to)) }
+    ensures err { OnErr result (bag.new ≡ bag.old) }
 {
-    let near = near_of(alloc, u)?;
-    let around = near.as_slice();
-    let vprocs = moved_vprocs(alloc, u.pid, old, to, &before.vprocs)?;
-    let mut later = Bag {
-        vprocs,
-        groups: Table::new(alloc),
-    };
-    let groups = moved_groups(alloc, before, &later, around, u, to)?;
-    later.groups = groups;
-    Ok(later)
+    let before = counts_by_group(alloc, bag, m.near.as_slice())?;
+    join(alloc, by, m, to, bag)?;
+    settle_group(by, bag);
+    regroup(alloc, m, to.group, before.as_slice(), bag);
+    Ok(())
 }

@@ -7,16 +7,19 @@ ghost use Rattle.record_bag.specs.Decisions.{answered};
 ghost use Rattle.decide_law.specs.Base.{HasBase};
 ghost use Rattle.decide_law.specs.Parts.{decide_by};
 ghost use Rattle.ops_groups.specs.Decide.{IsGroupsCall, GroupsCallsAnswered, effect_of};
-ghost use Rattle.ops_groups.specs.Fitting.{IsFitting};
+ghost use Rattle.decide_law.specs.Vector.{IsFitting};
 
 mod bag_after;
-mod copies;
+mod joining;
 mod lookups;
 #[cfg(test)]
 mod move_tests;
+mod mover;
 mod moves;
 mod names;
 mod refused;
+mod settling;
+mod tallies;
 
 pub use lookups::{decide_getpgid, decide_getpid, decide_getppid, decide_getsid};
 pub use moves::decide_move;

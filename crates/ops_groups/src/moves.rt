@@ -5,7 +5,6 @@ ghost use Rattle.unix_names.specs.declared.Pid.{Pid as ThePid};
 ghost use Rattle.unix_calls.specs.Calls.{IsName, HasNames};
 ghost use Rattle.unix_calls.specs.declared.Call.{Call as TheCall};
 ghost use Rattle.unix_calls.specs.declared.Call.TheVariants as calls;
-ghost use Rattle.unix_calls.specs.declared.Entry.TheVariants.{Called};
 ghost use Rattle.vproc_record.specs.declared.Vproc.{Vproc as TheVproc};
 ghost use Rattle.group_record.specs.declared.Group.{Group as TheGroup};
 ghost use Rattle.record_bag.specs.Bags.{vproc_in, group_in};
@@ -20,17 +19,16 @@ ghost use Rattle.decide_law.specs.Nudges.{but_system};
 ghost use Rattle.decide_law.specs.Parts.{decide_by};
 ghost use Rattle.decide_law.specs.Told.{target_in};
 ghost use Rattle.ops_groups.specs.Decide.{effect_of};
-ghost use Rattle.ops_groups.specs.Move.{move};
 ghost use Rattle.ops_groups.specs.Setpgid.{setpgid_effect};
 ghost use Rattle.ops_groups.specs.Setsid.{setsid_effect};
-ghost use Rattle.ops_groups.specs.MethodMove.{IsMoveCall, in_session, IsCountedIn, IsWithin, named_group, decided_as, ChangesAs};
+ghost use Rattle.ops_groups.specs.MethodMove.{IsMoveCall, IsCountedIn, IsWithin, named_group, decided_as, group_settled, ChangesAs};
 
-use crate::bag_after::{Place, moved_bag};
-use crate::copies::copy_bag;
+use crate::bag_after::move_in;
+use crate::mover::{Place, mover_of};
 use crate::names::{setpgid_names, setsid_names};
 use crate::refused::{has_child, setpgid_refusal, target_pid, wanted_group};
-use decide_law::{finish_with, is_none, settle_in};
-use group_record::Group;
+use crate::settling::{Caller, give_back, settle_group, take_backlog};
+use decide_law::{finish_with, folded, is_none};
 use record_bag::{Bag, Outcome};
 use signal_state::Own;
 use std::alloc::Global;
@@ -38,20 +36,20 @@ use unix_calls::{Call, Entry, Phase, Reply};
 use unix_names::{Errno, Name, NoMemory, Pid, SYSTEM, Seq};
 use vproc_record::Vproc;
 
-/// What a call makes of a bag: its reply, the bag, and whom it nudges.
+/// What a call answers, and whom it nudges.
 #[derive(Debug, Drop)]
 pub struct Change {
     pub reply: Reply,
-    pub bag: Bag,
     pub nudges: Seq<Pid>,
 }
 
-fn unchanged(alloc: Global, before: Bag, reply: Reply) -> Change
-    ensures { (p : ThePid) (call : TheCall) → ChangesAs before p call (replied p call reply) result }
+// A reply that changes nothing, once the caller has taken its part of its group's log. It takes no memory.
+fn unchanged(alloc: Global, by: Caller, reply: Reply, bag: &mut Bag) -> Change
+    ensures { (call : TheCall) → ChangesAs (group_settled by.pid by.group bag.old) bag.new by.pid call (replied by.pid call reply) result }
 {
+    settle_group(by, bag);
     Change {
         reply,
-        bag: before,
         nudges: Seq::new(alloc),
     }
 }
@@ -75,45 +73,32 @@ fn move_nudges(alloc: Global, caller: Pid, u: &Vproc) -> Result<Seq<Pid>, NoMemo
     Ok(nudges)
 }
 
-// A call of the caller by which a process goes from its old group to this place.
-fn move_to(
-    alloc: Global,
-    before: &Bag,
-    caller: Pid,
-    u: &Vproc,
-    old: &Group,
-    to: Place,
-    reply: Reply,
-) -> Result<Change, NoMemory>
-    requires { (id : ThePid) → IsCountedIn (group_in before.now id) }
-    ensures { IfOk result (λ change. (call : TheCall) → ChangesAs before.now caller call (λ sig. move (Called caller call reply) before.now sig caller u.now old.now (in_session to)) change) }
+// Setsid, on a bag in which the caller has taken its backlog.
+fn setsid_change(alloc: Global, by: Caller, bag: &mut Bag) -> Result<Change, NoMemory>
+    requires there { IsSome (vproc_in bag.old by.pid) }
+    requires counted { (id : ThePid) → IsCountedIn (group_in bag.old id) }
+    ensures ok { (v : TheVproc) → vproc_in bag.old by.pid ≡ Some v → IfOk result (ChangesAs (group_settled by.pid by.group bag.old) bag.new by.pid calls.Setsid (λ sig. setsid_effect (group_settled by.pid by.group bag.old) sig by.pid v)) }
+    ensures err { OnErr result (bag.new ≡ bag.old) }
 {
-    let nudges = move_nudges(alloc, caller, u)?;
-    let bag = moved_bag(alloc, before, u, old, to)?;
-    Ok(Change { reply, bag, nudges })
-}
-
-// Setsid, on a bag in which the caller is settled.
-fn setsid_change(alloc: Global, pid: Pid, before: Bag) -> Result<Change, NoMemory>
-    requires there { IsSome (vproc_in before pid) }
-    requires counted { (id : ThePid) → IsCountedIn (group_in before id) }
-    ensures { (v : TheVproc) → vproc_in before pid ≡ Some v → IfOk result (ChangesAs before pid calls.Setsid (λ sig. setsid_effect before sig pid v)) }
-{
-    let Some(v) = before.vproc(pid) else {
+    let pid = by.pid;
+    let Some(v) = bag.vproc(pid) else {
         unreachable!();
     };
-    if before.group(v.pid).is_some() {
-        return Ok(unchanged(alloc, before, Reply::Refused(Errno::EPERM)));
+    if bag.group(v.pid).is_some() {
+        return Ok(unchanged(alloc, by, Reply::Refused(Errno::EPERM), bag));
     }
     let reply = Reply::Number(pid.0);
-    let Some(old) = before.group(v.group) else {
-        return Ok(unchanged(alloc, before, reply));
-    };
+    if bag.group(v.group).is_none() {
+        return Ok(unchanged(alloc, by, reply, bag));
+    }
     let to = Place {
         group: v.pid,
         session: v.pid,
     };
-    move_to(alloc, &before, pid, v, old, to, reply)
+    let nudges = move_nudges(alloc, pid, v)?;
+    let mover = mover_of(alloc, v)?;
+    move_in(alloc, by, &mover, to, bag)?;
+    Ok(Change { reply, nudges })
 }
 
 // The record of the target: the caller's own, or that of a child; of another process none is looked at.
@@ -141,52 +126,61 @@ fn named_group(v: &Vproc, target: u32, group: i64) -> Pid
     }
 }
 
-// Setpgid, on a bag in which the caller is settled.
+// Setpgid, on a bag in which the caller has taken its backlog.
 fn setpgid_change(
     alloc: Global,
-    pid: Pid,
+    by: Caller,
     target: u32,
     group: i64,
-    before: Bag,
+    bag: &mut Bag,
 ) -> Result<Change, NoMemory>
-    requires there { IsSome (vproc_in before pid) }
-    requires counted { (id : ThePid) → IsCountedIn (group_in before id) }
+    requires there { IsSome (vproc_in bag.old by.pid) }
+    requires counted { (id : ThePid) → IsCountedIn (group_in bag.old id) }
     requires name { IsName group }
-    ensures { (v : TheVproc) → vproc_in before pid ≡ Some v → IfOk result (ChangesAs before pid (calls.Setpgid target group) (λ sig. setpgid_effect before sig pid v target group)) }
+    ensures ok { (v : TheVproc) → vproc_in bag.old by.pid ≡ Some v → IfOk result (ChangesAs (group_settled by.pid by.group bag.old) bag.new by.pid (calls.Setpgid target group) (λ sig. setpgid_effect (group_settled by.pid by.group bag.old) sig by.pid v target group)) }
+    ensures err { OnErr result (bag.new ≡ bag.old) }
 {
-    let Some(v) = before.vproc(pid) else {
+    let pid = by.pid;
+    let Some(v) = bag.vproc(pid) else {
         unreachable!();
     };
-    if let Some(refusal) = setpgid_refusal(&before, v, target, group) {
-        return Ok(unchanged(alloc, before, Reply::Refused(refusal)));
+    if let Some(refusal) = setpgid_refusal(bag, v, target, group) {
+        return Ok(unchanged(alloc, by, Reply::Refused(refusal), bag));
     }
     let new = named_group(v, target, group);
-    let Some(u) = target_in(&before, v, target_pid(v, target)) else {
-        return Ok(unchanged(alloc, before, Reply::Fine));
+    let Some(u) = target_in(bag, v, target_pid(v, target)) else {
+        return Ok(unchanged(alloc, by, Reply::Fine, bag));
     };
-    let Some(old) = before.group(u.group) else {
-        return Ok(unchanged(alloc, before, Reply::Fine));
-    };
+    if bag.group(u.group).is_none() {
+        return Ok(unchanged(alloc, by, Reply::Fine, bag));
+    }
     if u.group == new {
-        return Ok(unchanged(alloc, before, Reply::Fine));
+        return Ok(unchanged(alloc, by, Reply::Fine, bag));
     }
     let to = Place {
         group: new,
         session: u.session,
     };
-    move_to(alloc, &before, pid, u, old, to, Reply::Fine)
+    let nudges = move_nudges(alloc, pid, u)?;
+    let mover = mover_of(alloc, u)?;
+    move_in(alloc, by, &mover, to, bag)?;
+    Ok(Change {
+        reply: Reply::Fine,
+        nudges,
+    })
 }
 
-fn change_by(alloc: Global, pid: Pid, call: &Call, before: Bag) -> Result<Change, NoMemory>
+fn change_by(alloc: Global, by: Caller, call: &Call, bag: &mut Bag) -> Result<Change, NoMemory>
     requires moves { IsMoveCall call.now }
     requires names { HasNames call.now }
-    requires there { IsSome (vproc_in before pid) }
-    requires counted { (id : ThePid) → IsCountedIn (group_in before id) }
-    ensures { (v : TheVproc) → vproc_in before pid ≡ Some v → IfOk result (ChangesAs before pid call.now (λ sig. effect_of call.now before sig pid v)) }
+    requires there { IsSome (vproc_in bag.old by.pid) }
+    requires counted { (id : ThePid) → IsCountedIn (group_in bag.old id) }
+    ensures ok { (v : TheVproc) → vproc_in bag.old by.pid ≡ Some v → IfOk result (ChangesAs (group_settled by.pid by.group bag.old) bag.new by.pid call.now (λ sig. effect_of call.now (group_settled by.pid by.group bag.old) sig by.pid v)) }
+    ensures err { OnErr result (bag.new ≡ bag.old) }
 {
     match *call {
-        Call::Setsid => setsid_change(alloc, pid, before),
-        Call::Setpgid { pid: target, pgid } => setpgid_change(alloc, pid, target, pgid, before),
+        Call::Setsid => setsid_change(alloc, by, bag),
+        Call::Setpgid { pid: target, pgid } => setpgid_change(alloc, by, target, pgid, bag),
         _ => unreachable!(),
     }
 }
@@ -204,31 +198,25 @@ fn names_for(alloc: Global, bag: &Bag, v: &Vproc, call: &Call) -> Result<Seq<Nam
 }
 
 // The answer of a call of the caller, which carries these signals and had this group, with this change. It takes no memory.
-fn finish(own: Own, pid: Pid, group: Pid, call: Call, change: Change, bag: &mut Bag) -> Outcome
-    requires held { IsSome (group_at change.bag group) }
-    requires within { (g : TheGroup) → group_at change.bag group ≡ Some (Some g) → IsWithin g }
-    ensures outcome { result ≡ Done (decided_as pid call own change.reply change.nudges) }
-    ensures bag { bag.new ≡ trimmed_in group change.bag }
+fn finish(own: Own, by: Caller, call: Call, change: Change, bag: &mut Bag) -> Outcome
+    requires held { IsSome (group_at bag.old by.group) }
+    requires within { (g : TheGroup) → group_at bag.old by.group ≡ Some (Some g) → IsWithin g }
+    ensures outcome { result ≡ Done (decided_as by.pid call own change.reply change.nudges) }
+    ensures bag { bag.new ≡ trimmed_in by.group bag.old }
 {
-    let Change {
-        reply,
-        bag: mut left,
-        nudges,
-    } = change;
+    let Change { reply, nudges } = change;
     let entry = Entry::Called {
-        caller: pid,
+        caller: by.pid,
         call,
         reply,
     };
-    let outcome = finish_with(nudges, own, group, &mut left, Some(entry), Phase::Ready);
-    *bag = left;
-    outcome
+    finish_with(nudges, own, by.group, bag, Some(entry), Phase::Ready)
 }
 
-/// Decides setsid and setpgid: asks for the records that lack, refuses, or takes the process from its group to another, which may be a new one. It is worked out on a second bag, so that want of memory leaves this one.
+/// Decides setsid and setpgid: asks for the records that lack, refuses, or takes the process from its group to another, which may be a new one. The records are changed in place; what may find no memory comes first, and is undone where it does.
 ///
 /// # Errors
-/// NoMemory where there is no room for the names that are asked for, or for the records; the bag is as before.
+/// NoMemory where there is no room for the names that are asked for, or for what the records gain; the bag is as before.
 pub fn decide_move(
     alloc: Global,
     pid: Pid,
@@ -250,9 +238,19 @@ pub fn decide_move(
     if !is_none(&names) {
         return Ok(Outcome::Need(names));
     }
-    let mut before = copy_bag(alloc, bag)?;
-    let mut carried = *own;
-    let group = settle_in(&mut carried, pid, &mut before);
-    let change = change_by(alloc, pid, call, before)?;
-    Ok(finish(carried, pid, group, *call, change, bag))
+    let by = Caller {
+        pid,
+        group: v.group,
+    };
+    let Some(carried) = folded(pid, own, bag) else {
+        unreachable!();
+    };
+    let backlog = take_backlog(alloc, pid, bag);
+    match change_by(alloc, by, call, bag) {
+        Ok(change) => Ok(finish(carried, by, *call, change, bag)),
+        Err(refused) => {
+            give_back(pid, backlog, bag);
+            Err(refused)
+        }
+    }
 }

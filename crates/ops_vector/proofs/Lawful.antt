@@ -29,7 +29,7 @@ use Rattle.record_bag.specs.Decisions.{Answered, answered, IsLawfulFor, IsLawful
 use Rattle.process_table.specs.declared.Row.{Row}
 use Rattle.decide_law.specs.Law.{SameNames}
 use Rattle.decide_law.specs.Needs.{IsNamed}
-use Rattle.decide_law.specs.Vector.{IsAnswer, IsVector}
+use Rattle.decide_law.specs.Vector.{IsAnswer, IsVector, Fits}
 use Rattle.decide_law.specs.Effects.{Effect, folded, emptied, settled_in, replied, done_by, on_group, on_vproc, on_base}
 use Rattle.decide_law.specs.Footprints.{lacking, is_none, needed, coming, event_footprint, call_footprint}
 use Rattle.decide_law.specs.Answer.{on_footprint}
@@ -40,7 +40,6 @@ use Rattle.decide_law.specs.Parts.{answer_by}
 use Rattle.migrate_core.specs.Moves.{arrival}
 use Rattle.ops_fork.specs.Fork.{is_full, fork_effect, fork_answer}
 use Rattle.ops_vector.specs.Answer.{call_effect, event_effect, call_answer, job_answer, first_answer, held_answer, unix_answer}
-use Rattle.ops_vector.specs.Question.{IsPut}
 use Rattle.ops_vector.proofs.Whole.{questions_answered}
 
 -- ---- names that are asked for rise
@@ -131,10 +130,10 @@ lawful_by nodes rows p job site bag left (outcome.Need names) right rises few = 
 )
 lawful_by nodes rows p job site bag left (outcome.Away node) right rises few = right.1
 
-pub unix_lawful : (p : Pid) (job : Job) (own : Own) (bag : Bag) (site : Site) → IsPut p job own bag site → IsLawful bag (unix_answer p job own bag site)
-unix_lawful p job own bag site put =
-    lawful_by put.fits.nodes put.fits.rows p job site bag (unix_answer p job own bag site).bag (unix_answer p job own bag site).outcome
-    (questions_answered put.fits.nodes put.fits.rows p job own bag site put.fits.asks) (answer_rises p job own bag site) put.numbers
+pub unix_lawful : (p : Pid) (job : Job) (own : Own) (bag : Bag) (site : Site) → Fits p job own bag site → IsLawful bag (unix_answer p job own bag site)
+unix_lawful p job own bag site f =
+    lawful_by f.nodes f.rows p job site bag (unix_answer p job own bag site).bag (unix_answer p job own bag site).outcome
+    (questions_answered f.nodes f.rows p job own bag site f.asks) (answer_rises p job own bag site) f.asks.numbers
 
 pub is_vector : (nodes : ℕ) → IsVector nodes unix_answer
 is_vector nodes = record { answers = λ rows p job own bag site a. questions_answered nodes rows p job own bag site a }

@@ -8,10 +8,9 @@ ghost use Rattle.signal_state.specs.declared.Own.{Own as TheOwn};
 ghost use Rattle.record_bag.specs.declared.bag.Bag.{Bag as TheBag};
 ghost use Rattle.record_bag.specs.declared.vector.Site.{Site as TheSite};
 ghost use Rattle.record_bag.specs.Decisions.{IsLawful};
-ghost use Rattle.decide_law.specs.Vector.{IsVector};
+ghost use Rattle.decide_law.specs.Vector.{IsVector, Fits};
 ghost use Rattle.ops_vector.specs.Answer.{unix_answer};
 ghost use Rattle.ops_vector.specs.Law.{QuestionsAnswered};
-ghost use Rattle.ops_vector.specs.Question.{IsPut};
 
 /// Each question that fits is answered by a step of the one kernel, by asking for what lacks, or by the way to another node.
 pub fn answers_are_steps()
@@ -25,5 +24,5 @@ pub fn answers_are_a_vector()
 
 /// They keep the law of every vector: a need names what lacks, in order and each once, and only a decision changes what is held, and not under which names.
 pub fn answers_are_lawful()
-    ensures { (p : ThePid) (job : TheJob) (own : TheOwn) (bag : TheBag) (site : TheSite) → IsPut p job own bag site → IsLawful bag (unix_answer p job own bag site) }
+    ensures { (p : ThePid) (job : TheJob) (own : TheOwn) (bag : TheBag) (site : TheSite) → Fits p job own bag site → IsLawful bag (unix_answer p job own bag site) }
 {}

@@ -3,3 +3,4 @@ pub mod PlaceLaws
 pub mod RisingLaws
 pub mod SparseLaws
 pub mod AbsentLaws
+pub mod PutLaws

@@ -1,6 +1,7 @@
 -- an id's place among entries that rise
-use Rattle.std.proofs.Common.{◌≡◌, ◌==◌, ◌<◌, ◌≤◌, ℕ, zero, suc, Bool, true, false, nat_lt, List, [], ◌∷◌, length, get_or, ap, refl, arith, Some, if◌then◌else◌, Option}
+use Rattle.std.proofs.Common.{◌≡◌, ◌==◌, ◌<◌, ◌≤◌, ℕ, zero, suc, Bool, true, false, nat_lt, List, [], ◌∷◌, length, get_or, ap, sym, ◌∙◌, refl, arith, Some, if◌then◌else◌, Option}
 use Rattle.std.specs.List.{last_or}
+use Rattle.std.proofs.lemmas.Bool.{eqb-true}
 use Rattle.unix_names.specs.declared.Pid.{Pid}
 use Rattle.ordered_table.specs.declared.entries.Entry.{Entry}
 use Rattle.ordered_table.specs.Entries.{pids_of, AllAbove, AllUpTo, IsRising}
@@ -10,6 +11,7 @@ use Rattle.ordered_table.specs.MethodPlaces.{place, IsFoundAt, IsVacantAt}
 found-later : {T : Type 0} (e : Entry T) (es : List (Entry T)) (p : Pid) (i : ℕ) → nat_lt e.pid.0 p.0 ≡ true → IsFoundAt es p i → IsFoundAt (e ∷ es) p (suc i)
 found-later e es p i less h = record {
   within = let lt = h.within in omega arith;
+  id = h.id;
   value = λ d. rw less (h.value d);
   replaced = λ v. rw less (ap (λ zs. e ∷ zs) (h.replaced v));
   removed = rw less (ap (λ zs. e ∷ zs) h.removed);
@@ -18,6 +20,7 @@ found-later e es p i less h = record {
 found-here : {T : Type 0} (e : Entry T) (es : List (Entry T)) (p : Pid) → nat_lt e.pid.0 p.0 ≡ false → (e.pid.0 == p.0) ≡ true → IsFoundAt (e ∷ es) p zero
 found-here e es p less same = record {
   within = omega arith;
+  id = λ x at. let first : e ≡ x = cc in ap (λ (n : ℕ). record { 0 = n }) (ap (λ (y : Entry _). y.pid.0) (sym first) ∙ eqb-true e.pid.0 p.0 same);
   value = λ d. rw (less, same);
   replaced = λ v. rw (less, same);
   removed = rw (less, same);

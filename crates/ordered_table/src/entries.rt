@@ -69,11 +69,7 @@ pub fn put<T>(entries: &mut Vec<Entry<T>>, pid: Pid, value: T) -> Result<Option<
     ensures known { IsSome (value_at entries.old.items pid) → IsOk result }
 {
     match search(entries.as_slice(), pid) {
-        Ok(at) => {
-            let old = replace_at(entries, at, Entry { pid, value });
-            let Entry { pid: _, value } = old;
-            Ok(Some(value))
-        }
+        Ok(at) => Ok(Some(replace_value_at(entries, at, value))),
         Err(at) => match entries.insert(at, Entry { pid, value }) {
             Ok(()) => Ok(None),
             Err(refused) => {
@@ -108,11 +104,7 @@ pub fn replace<T>(entries: &mut Vec<Entry<T>>, pid: Pid, value: T) -> T
     ensures after { entries.new.items ≡ with_value entries.old.items pid value }
 {
     match search(entries.as_slice(), pid) {
-        Ok(at) => {
-            let old = replace_at(entries, at, Entry { pid, value });
-            let Entry { pid: _, value } = old;
-            value
-        }
+        Ok(at) => replace_value_at(entries, at, value),
         Err(_) => unreachable!(),
     }
 }

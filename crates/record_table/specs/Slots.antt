@@ -1,5 +1,5 @@
 -- the slots of a node as a map from names
-use Rattle.std.specs.Prelude.{◌≡◌, ◌≢◌, Bool, Option}
+use Rattle.std.specs.Prelude.{◌≡◌, ◌≢◌, Bool, true, false, List, [], ◌∷◌, Option}
 use Rattle.unix_names.specs.declared.Pid.{Pid}
 use Rattle.unix_names.specs.declared.Name.{Name}
 use Rattle.unix_names.specs.declared.Name.TheVariants as name
@@ -11,7 +11,7 @@ use Rattle.record_table.specs.declared.slot.Slot.{Slot}
 use Rattle.record_table.specs.declared.slot.Slot.TheVariants.{Home, Out}
 use Rattle.record_table.specs.declared.slot.Line.{Line}
 use Rattle.record_table.specs.declared.slots.Slots.{Slots}
-use Rattle.record_table.specs.Places.{nobody, in_vprocs, in_groups, of_vproc, of_group, place_in, is_out_slot, marked}
+use Rattle.record_table.specs.Places.{nobody, in_vprocs, in_groups, of_vproc, of_group, place_in, is_out_slot, line_of, marked}
 
 -- what stands at the home of a name: what is held under it, or a line of those who wait
 abbrev pub slot_at : {C : Type 0} → Slots C → Name → Slot Held (Line C)
@@ -39,6 +39,14 @@ is_known slots (name.G g) = has_value slots.groups g
 -- whether the record of a name is out
 abbrev pub is_out : {C : Type 0} → Slots C → Name → Bool
 is_out slots n = is_out_slot (slot_at slots n)
+
+abbrev pub is_somebody : {C : Type 0} → List C → Bool
+is_somebody [] = false
+is_somebody (c ∷ cs) = true
+
+-- whether somebody waits for the record of a name
+abbrev pub is_awaited : {C : Type 0} → Slots C → Name → Bool
+is_awaited slots n = is_somebody (line_of (slot_at slots n)).waiters
 
 -- under every name but n the same stands before and after
 abbrev pub SameElsewhere : {C : Type 0} → Name → Slots C → Slots C → Type 0

@@ -1,7 +1,8 @@
 // What stands at the home of a record.
-ghost use Rattle.std.specs.Prelude.{◌≡◌, IfOk, OnOk, OnErr, IsOk, IsSome};
+ghost use Rattle.std.specs.Prelude.{◌≡◌, false, IfOk, OnOk, OnErr, IsOk, IsSome};
 ghost use Rattle.ordered_table.specs.Entries.{value_at, with_value};
-ghost use Rattle.record_table.specs.Places.{nobody, in_vprocs, in_groups, of_vproc, of_group, place_in};
+ghost use Rattle.record_table.specs.Places.{nobody, in_vprocs, in_groups, of_vproc, of_group, place_in, is_out_slot};
+ghost use Rattle.record_table.specs.declared.slot.Slot.TheVariants.{Home, Out};
 
 use group_record::Group;
 use ordered_table::{Queue, Table};
@@ -100,6 +101,25 @@ pub fn swap_in<R: Drop, L: Drop>(
     match slots.put(pid, slot) {
         Ok(Some(old)) => Ok(old),
         Ok(None) => Ok(Slot::Home(None)),
+        Err(_) => Err(NoMemory),
+    }
+}
+
+/// Takes the record that rests at an id's home; this line is there then.
+pub fn leave<R: Drop, L: Drop>(
+    slots: &mut Table<Slot<Option<R>, L>>,
+    pid: Pid,
+    line: L,
+) -> Result<Option<R>, NoMemory>
+    requires { is_out_slot (place_in slots.old pid) ≡ false }
+    ensures before { IfOk result (λ rested. place_in slots.old pid ≡ Home rested) }
+    ensures ok { OnOk result (slots.new ≡ with_value slots.old pid (Out line)) }
+    ensures err { OnErr result (slots.new ≡ slots.old) }
+{
+    match slots.put(pid, Slot::Out(line)) {
+        Ok(Some(Slot::Home(rested))) => Ok(rested),
+        Ok(Some(Slot::Out(_))) => unreachable!(),
+        Ok(None) => Ok(None),
         Err(_) => Err(NoMemory),
     }
 }

@@ -1,12 +1,12 @@
 // The slots of a node.
-ghost use Rattle.std.specs.Prelude.{◌≡◌, [], true, IfOk, IfErr, OnOk, OnErr, IsOk};
+ghost use Rattle.std.specs.Prelude.{◌≡◌, [], true, false, IfOk, IfErr, OnOk, OnErr, IsOk};
 ghost use Rattle.record_bag.specs.Kinds.{of_kind};
 
 use crate::slot::{
-    GroupSlot, Line, NamedSlot, Slot, VprocSlot, in_groups, in_vprocs, nobody, of_group, of_vproc,
-    swap_in,
+    GroupSlot, Line, NamedSlot, Slot, VprocSlot, in_groups, in_vprocs, leave, nobody, of_group,
+    of_vproc, swap_in,
 };
-use ordered_table::Table;
+use ordered_table::{Queue, Table};
 use record_bag::Held;
 use std::alloc::Global;
 use unix_names::{Name, NoMemory, NodeId, Pid, is_living};
@@ -43,7 +43,7 @@ pub struct Slots<C> {
 
 impl<C: Drop> Slots<C> {
     ghost use Rattle.record_table.specs.Places.{nobody, line_of, taken, left, put_back, given, joined, nudged, marked};
-    ghost use Rattle.record_table.specs.Slots.{slot_at, with_slot, process, resting, is_known, is_out, after_take, after_nudge, SameElsewhere};
+    ghost use Rattle.record_table.specs.Slots.{slot_at, with_slot, process, resting, is_known, is_out, is_awaited, after_take, after_nudge, SameElsewhere};
     ghost use Rattle.record_table.specs.declared.slot.Slot.TheVariants.{Home, Out};
 
     /// Slots in which every record is at home and absent. It takes no memory.
@@ -83,10 +83,8 @@ impl<C: Drop> Slots<C> {
         if self.is_out(name) {
             return Ok(Taken::Out);
         }
-        match self.swap(name, Slot::Out(nobody(alloc)))? {
-            Slot::Home(held) => Ok(Taken::Here(held)),
-            Slot::Out(_) => unreachable!(),
-        }
+        let held = self.take_rested(alloc, name)?;
+        Ok(Taken::Here(held))
     }
 
     /// Brings a record back: to the first in line, and then it stays out; or it rests without a mark. A record of the other kind counts as absent. It takes no memory.
@@ -124,6 +122,43 @@ impl<C: Drop> Slots<C> {
         }
         self.rest(name, held)?;
         Ok(PutBack::Rests { nudged: false })
+    }
+
+    /// Whether somebody waits for a record that is out. It takes no memory.
+    pub fn is_awaited(&self, name: Name) -> bool
+        ensures { result ≡ is_awaited self.now name }
+    {
+        match name {
+            Name::V(pid) => match self.vprocs.get(pid) {
+                Some(Slot::Out(line)) => !line.waiters.is_empty(),
+                _ => false,
+            },
+            Name::G(pid) => match self.groups.get(pid) {
+                Some(Slot::Out(waiters)) => !waiters.is_empty(),
+                _ => false,
+            },
+        }
+    }
+
+    /// Lays a record for which nobody waits at its home, and tells whether its process was nudged meanwhile. Where it is out no memory is taken.
+    pub fn lay_alone(&mut self, name: Name, held: Held) -> Result<bool, NoMemory>
+        requires { is_awaited self.old name ≡ false }
+        ensures nudged { IfOk result (λ nudged. nudged ≡ (line_of (slot_at self.old name)).is_marked) }
+        ensures after { OnOk result (self.new ≡ with_slot self.old name (Home held)) }
+        ensures err { OnErr result (self.new ≡ self.old) }
+    {
+        match name {
+            Name::V(pid) => {
+                match swap_in(&mut self.vprocs, pid, Slot::Home(held.into_vproc()))? {
+                    Slot::Out(line) => Ok(line.is_marked),
+                    Slot::Home(_) => Ok(false),
+                }
+            }
+            Name::G(pid) => {
+                swap_in(&mut self.groups, pid, Slot::Home(held.into_group()))?;
+                Ok(false)
+            }
+        }
     }
 
     /// Lays a record at its home, whatever stood there. Where the name was seen, no memory is taken.
@@ -181,6 +216,19 @@ impl<C: Drop> Slots<C> {
         match self.vprocs.get(pid) {
             Some(Slot::Home(Some(vproc))) if is_living(vproc.life) => Nudged::At(vproc.loc),
             _ => Nudged::Nobody,
+        }
+    }
+
+    // Takes the record that rests under a name.
+    fn take_rested(&mut self, alloc: Global, name: Name) -> Result<Held, NoMemory>
+        requires { is_out self.old name ≡ false }
+        ensures before { IfOk result (λ held. slot_at self.old name ≡ Home held) }
+        ensures ok { OnOk result (self.new ≡ with_slot self.old name (Out nobody)) }
+        ensures err { OnErr result (self.new ≡ self.old) }
+    {
+        match name {
+            Name::V(pid) => Ok(Held::V(leave(&mut self.vprocs, pid, nobody(alloc))?)),
+            Name::G(pid) => Ok(Held::G(leave(&mut self.groups, pid, Queue::new(alloc))?)),
         }
     }
 

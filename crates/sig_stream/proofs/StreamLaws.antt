@@ -48,11 +48,11 @@ drop_parts n k first second e false t =
     ap (λ i. drop i (first ++ second)) sum ∙ drop-append-add first second (n - k) ∙ ap (λ l. l ++ drop (n - k) second) (sym (drop-length first)) ∙ ap (λ i. drop i first ++ drop (n - k) second) all
 
 -- the tail of a stream is generated in two parts
-pub tail_in_parts : (sig : Signals) (taken k : ℕ) (v : Vproc) (g : Group) → k ≡ min taken (length v.backlog) →
-    generated_all (generated_all sig (drop k v.backlog)) (drop (taken - k) (log_part v.pid v.uid g)) ≡ generated_all sig (tail taken v g)
-tail_in_parts sig taken k v g e =
-    sym (generated_all-append sig (drop k v.backlog) (drop (taken - k) (log_part v.pid v.uid g)))
-    ∙ ap (generated_all sig) (sym (drop_parts taken k v.backlog (log_part v.pid v.uid g) e (nat_le taken (length v.backlog)) refl))
+pub tail_in_parts : (sig : Signals) (taken k : ℕ) (first second : List Signal) → k ≡ min taken (length first) →
+    generated_all (generated_all sig (drop k first)) (drop (taken - k) second) ≡ generated_all sig (drop taken (first ++ second))
+tail_in_parts sig taken k first second e =
+    sym (generated_all-append sig (drop k first) (drop (taken - k) second))
+    ∙ ap (generated_all sig) (sym (drop_parts taken k first second e (nat_le taken (length first)) refl))
 
 -- how long a stream is
 pub length-signals_for : (p : Pid) (uid : ℕ) (entries : List LogEntry) → length (signals_for p uid entries) ≡ count_by (concerns p uid) entries

@@ -1,6 +1,7 @@
 // The length of a stream, and its fold.
-ghost use Rattle.std.specs.Prelude.{◌≡◌, ◌≤◌, ◌<◌, ◌^◌, length, drop, count_by};
+ghost use Rattle.std.specs.Prelude.{◌≡◌, ◌≤◌, ◌<◌, ◌^◌, ◌++◌, ◌∷◌, List, length, drop, count_by};
 ghost use Rattle.signal_state.specs.Sig.{generated_all};
+ghost use Rattle.group_record.specs.declared.LogEntry.{LogEntry as Entry};
 ghost use Rattle.group_record.specs.Log.{concerns};
 ghost use Rattle.sig_stream.specs.Streams.{stream, tail, signals_for};
 
@@ -33,12 +34,29 @@ pub fn fold_tail(own: &mut Own, v: &Vproc, g: &Group)
     ensures taken { own.new.taken ≡ length (stream v.now g.now) }
 {
     let backlog = v.backlog.as_slice();
+    let part = g.part_of(v.pid);
+    let sig = generate_parts(own, backlog, part, v.pid, v.uid);
+    let taken = backlog.len() as u64 + count_for(part, v.pid, v.uid) as u64;
+    *own = Own { sig, taken };
+}
+
+/// Generates the signals of the stream that were not taken, in order; nothing counts as taken then. It takes no memory.
+pub fn fold_all(own: &mut Own, v: &Vproc, g: &Group)
+    requires { own.old.taken ≤ length (stream v.now g.now) }
+    ensures { own.new ≡ record { sig = generated_all own.old.sig (tail own.old.taken v.now g.now); taken = 0 } }
+{
+    let part = g.part_of(v.pid);
+    let sig = generate_parts(own, v.backlog.as_slice(), part, v.pid, v.uid);
+    *own = Own { sig, taken: 0 };
+}
+
+// What the first signals leave, and the entries after them.
+fn generate_parts(own: &Own, backlog: &[Signal], part: &[LogEntry], p: Pid, uid: u32) -> Sig
+    ensures { result ≡ generated_all own.now.sig (drop own.now.taken (backlog.now ++ signals_for p uid part.now)) }
+{
     let passed = own.taken.min(backlog.len() as u64);
     let after_backlog = generate_each(own.sig, after_first(backlog, passed as usize));
-    let part = g.part_of(v.pid);
-    let sig = generate_for(after_backlog, part, v.pid, v.uid, own.taken - passed);
-    let taken = stream_len(v, g);
-    *own = Own { sig, taken };
+    generate_for(after_backlog, part, p, uid, own.taken - passed)
 }
 
 fn after_first(signals: &[Signal], passed: usize) -> &[Signal]
@@ -70,14 +88,30 @@ fn generate_for(start: Sig, entries: &[LogEntry], p: Pid, uid: u32, passed: u64)
 {
     let mut sig = start;
     let mut left = passed;
-    for e in entries {
-        if e.concerns(p, uid) {
-            if left > 0 {
-                left -= 1;
-            } else {
-                sig.generate(e.signal);
-            }
-        }
+    // Four at a time, since a log may have hundreds that concern others.
+    let mut rest = entries;
+    while let [a, b, c, d, others @ ..] = rest {
+        take_one(&mut sig, &mut left, a, p, uid);
+        take_one(&mut sig, &mut left, b, p, uid);
+        take_one(&mut sig, &mut left, c, p, uid);
+        take_one(&mut sig, &mut left, d, p, uid);
+        rest = others;
+    }
+    for e in rest {
+        take_one(&mut sig, &mut left, e, p, uid);
     }
     sig
+}
+
+// The next entry of a part: one more was passed, or its signal is generated, if it concerns the process.
+fn take_one(sig: &mut Sig, left: &mut u64, e: &LogEntry, p: Pid, uid: u32)
+    ensures { (more : List Entry) → generated_all sig.new (drop left.new (signals_for p uid more)) ≡ generated_all sig.old (drop left.old (signals_for p uid (e.now ∷ more))) }
+{
+    if e.concerns(p, uid) {
+        if *left > 0 {
+            *left -= 1;
+        } else {
+            sig.generate(e.signal);
+        }
+    }
 }

@@ -33,10 +33,11 @@ use Rattle.decide_law.specs.Effects.{folded, on_group, on_vproc, on_base}
 use Rattle.decide_law.specs.Footprints as footprint
 use Rattle.decide_law.specs.Footprints.{coming}
 use Rattle.decide_law.specs.Law.{Based}
-use Rattle.decide_law.specs.Needs.{size, IsNamed, OfJob}
+use Rattle.decide_law.specs.Needs.{IsNamed}
 use Rattle.decide_law.specs.Parts.{decide_by}
-use Rattle.decide_law.specs.Vector.{Fits}
+use Rattle.decide_law.specs.Vector.{Fits, IsFitting}
 use Rattle.decide_law.proofs.Answers.{based}
+use Rattle.decide_law.proofs.CallNames.{has_names}
 use Rattle.decide_law.proofs.ComingFirst.{coming_first}
 use Rattle.decide_law.proofs.FirstEvent.{orphaned_told}
 use Rattle.decide_law.proofs.Fitting.{fits_base}
@@ -51,9 +52,7 @@ use Rattle.migrate_core.specs.Moves.{decide_migrate}
 use Rattle.ops_deliver.specs.Decide as deliver
 use Rattle.ops_deliver.specs.Decide.{IsDelivered}
 use Rattle.ops_deliver.specs.Events.{event_answer}
-use Rattle.ops_ending.specs.Fitting.{IsFitting}
 use Rattle.ops_vector.specs.Answer.{call_answer, job_answer, event_effect, first_answer, held_answer, unix_answer}
-use Rattle.ops_vector.specs.Question.{IsPut}
 use Rattle.ops_vector.proofs.Whole.{no_move}
 
 -- ---- results
@@ -86,25 +85,15 @@ module _ (at : Option NodeId) (own : Own) (bag : Bag) (site : Site) (p : Pid) wh
   exit_wait_part _ h = absurd h
 
 -- ---- the numbers of a call
-name_fits : (z : ℤ) → size z < 2 ^ 32 → IsName z
-name_fits (pos n) h = let few : n < 4294967296 = h in (record { le = tt }, record { le = le→leb n 4294967295 (omega arith) })
-name_fits (negsuc n) h = let few : suc n < 4294967296 = h in (record { le = le→leb n 4294967294 (omega arith) }, record { le = tt })
+pub put_names : (p : Pid) (call : Call) (at : Option NodeId) (own : Own) (bag : Bag) (site : Site) → Fits p (Ask call at) own bag site → HasNames call
+put_names p call at own bag site put = has_names put.rows p call at put.asks.numbers
 
-pub has_names : (rows : List Row) (p : Pid) (call : Call) (at : Option NodeId) → ((n : ℕ) → IsNamed rows p (Ask call at) n → n < 2 ^ 32) → HasNames call
-has_names rows p (calls.Waitpid sel stopped continued) at few = name_fits sel (few (size sel) (OfJob refl))
-has_names rows p (calls.Kill target s) at few = name_fits target (few (size target) (OfJob refl))
-has_names rows p (calls.Setpgid t q) at few = name_fits q (few (size q) (OfJob (inr refl)))
-has_names rows p _ at few = tt
-
-pub put_names : (p : Pid) (call : Call) (at : Option NodeId) (own : Own) (bag : Bag) (site : Site) → IsPut p (Ask call at) own bag site → HasNames call
-put_names p call at own bag site put = has_names put.fits.rows p call at put.numbers
-
-pub put_fitting : (p : Pid) (job : Job) (own : Own) (bag : Bag) (site : Site) → IsPut p job own bag site → IsFitting p own bag
-put_fitting p job own bag site put = record { job = job; site = site; fits = put.fits }
+pub put_fitting : (p : Pid) (job : Job) (own : Own) (bag : Bag) (site : Site) → Fits p job own bag site → IsFitting p own bag
+put_fitting p job own bag site put = record { job = job; site = site; fits = put }
 
 -- the fresh pid is no member of a group that is held
-pub put_fresh : (p : Pid) (job : Job) (own : Own) (bag : Bag) (site : Site) → IsPut p job own bag site → (id : Pid) (g : Group) → group_at bag id ≡ Some (Some g) → has_member g.members site.fresh ≡ false
-put_fresh p job own bag site put id g at = fresh_no_member p job own bag site id g put.fits at
+pub put_fresh : (p : Pid) (job : Job) (own : Own) (bag : Bag) (site : Site) → Fits p job own bag site → (id : Pid) (g : Group) → group_at bag id ≡ Some (Some g) → has_member g.members site.fresh ≡ false
+put_fresh p job own bag site put id g at = fresh_no_member p job own bag site id g put at
 
 -- a fork, and a migration
 pub fork_part : (at : Option NodeId) (own : Own) (bag : Bag) (site : Site) (p : Pid) (call : Call) → call ≡ calls.Fork → decide_fork at site p own bag ≡ on_base (call_answer call at own bag site p) p bag

@@ -8,7 +8,7 @@ ghost use Rattle.decide_law.specs.Base.{HasBase};
 ghost use Rattle.decide_law.specs.Effects.{on_base};
 ghost use Rattle.decide_law.specs.Footprints.{is_orphaned, coming};
 ghost use Rattle.ops_deliver.specs.Events.{event_answer};
-ghost use Rattle.ops_ending.specs.Fitting.{IsFitting};
+ghost use Rattle.decide_law.specs.Vector.{IsFitting};
 ghost use Rattle.ops_vector.specs.Answer.{event_effect};
 
 use kernel_choice::first_event_of;

@@ -2,7 +2,7 @@
 ghost use Rattle.std.specs.Prelude.{◌≡◌, IfOk, OnErr};
 ghost use Rattle.record_bag.specs.Decisions.{answered};
 ghost use Rattle.ops_vector.specs.Answer.{unix_answer};
-ghost use Rattle.ops_vector.specs.Question.{IsPut};
+ghost use Rattle.decide_law.specs.Vector.{Fits};
 ghost use Rattle.ops_vector.proofs.Lawful.{unix_lawful};
 
 use crate::happening::{first_event, happen};
@@ -27,7 +27,7 @@ fn decide(
     bag: &mut Bag,
     site: Site,
 ) -> Result<Outcome, NoMemory>
-    requires { IsPut pid job.now own.now bag.old site }
+    requires { Fits pid job.now own.now bag.old site }
     ensures answer { IfOk result (λ outcome. answered outcome bag.new ≡ unix_answer pid job.now own.now bag.old site) }
     ensures err { OnErr result (bag.new ≡ bag.old) }
 {
@@ -41,7 +41,7 @@ fn decide(
 }
 
 impl OpVector for UnixOps {
-    ghost fits = { λ s pid job own bag site. IsPut pid job own bag site };
+    ghost fits = { λ s pid job own bag site. Fits pid job own bag site };
 
     ghost answer = { λ s pid job own bag site. unix_answer pid job own bag site };
 

@@ -5,7 +5,7 @@ ghost use Rattle.record_bag.specs.Decisions.{answered};
 ghost use Rattle.decide_law.specs.Base.{HasBase};
 ghost use Rattle.decide_law.specs.Effects.{on_base};
 ghost use Rattle.ops_vector.specs.Answer.{call_answer, job_answer};
-ghost use Rattle.ops_vector.specs.Question.{IsPut};
+ghost use Rattle.decide_law.specs.Vector.{Fits};
 
 use crate::parts::{Part, part_of};
 use decide_law::done_quiet;
@@ -28,7 +28,7 @@ fn answer_call(
     site: Site,
 ) -> Result<Outcome, NoMemory>
     requires base { HasBase own.now pid bag.old }
-    requires put { IsPut pid (Ask call.now at) own.now bag.old site }
+    requires put { Fits pid (Ask call.now at) own.now bag.old site }
     ensures answer { IfOk result (λ outcome. answered outcome bag.new ≡ on_base (call_answer call.now at own.now bag.old site pid) pid bag.old) }
     ensures err { OnErr result (bag.new ≡ bag.old) }
 {
@@ -54,7 +54,7 @@ pub fn do_job(
     site: Site,
 ) -> Result<Outcome, NoMemory>
     requires base { HasBase own.now pid bag.old }
-    requires put { IsPut pid job.now own.now bag.old site }
+    requires put { Fits pid job.now own.now bag.old site }
     ensures answer { IfOk result (λ outcome. answered outcome bag.new ≡ on_base (job_answer job.now own.now bag.old site pid) pid bag.old) }
     ensures err { OnErr result (bag.new ≡ bag.old) }
 {

@@ -11,29 +11,30 @@ use Rattle.node_state.specs.Ready.{first_movable}
 use Rattle.cluster_laws.specs.Turns.{question_fits}
 use Rattle.unix_calls.specs.declared.Turn.TheVariants.{Push}
 use Rattle.cluster_core.proofs.Asking.{sets_out_wider, sets_out_shown}
+use Rattle.cluster_core.proofs.Reached.{can_be_made}
 use Rattle.cluster_core.proofs.Making.{stepped_shows, stepped_made, has_wire, put_back_shows, right_idle}
 use Rattle.cluster_core.proofs.cluster.push.Goals as goal
 
 pub push-requires : goal.push-requires
 push-requires g c runs =
-    let shown = g.shown in
+    let shown = c.requires.shown in
     let places = c.args.places.now.items in
     let place = c.in-Some.place.now in
     let here : slice_get places c.args.k ≡ Some place = slice_get_read places (length places) c.args.k place refl (c.in-Some.ensures.item.3).0 c.in-Some.ensures.value in
-    let lt : c.args.k < c.args.world.now.nodes = subst (λ (n : ℕ). c.args.k < n) c.requires.1.1.many (c.in-Some.ensures.item.3).0 in
-    sets_out_shown g.O.OpVector.fits g.O.OpVector.answer c.args.world.now shown.ops (shown.cluster.nodes c.args.k) place.node (λ s. pushed s (record { 0 = c.args.to })) (c.requires.1.1.node c.args.k place here)
-    (sets_out_wider question_fits (g.O.OpVector.fits shown.ops) c.requires.1.0.decides.asked c.args.world.now (g.O.OpVector.answer shown.ops) (pushed (shown.cluster.nodes c.args.k) (record { 0 = c.args.to })) (c.requires.1.0.turns.pushes c.args.k (record { 0 = c.args.to }) lt (omega (arith, c.if-to-world.false))))
+    let lt : c.args.k < c.args.world.now.nodes = subst (λ (n : ℕ). c.args.k < n) c.requires.shows.many (c.in-Some.ensures.item.3).0 in
+    sets_out_shown g.O.OpVector.fits g.O.OpVector.answer c.args.world.now shown.ops (shown.cluster.nodes c.args.k) place.node (λ s. pushed s (record { 0 = c.args.to })) (c.requires.shows.node c.args.k place here)
+    (sets_out_wider question_fits (g.O.OpVector.fits shown.ops) (can_be_made c.requires).decides.asked c.args.world.now (g.O.OpVector.answer shown.ops) (pushed (shown.cluster.nodes c.args.k) (record { 0 = c.args.to })) ((can_be_made c.requires).turns.pushes c.args.k (record { 0 = c.args.to }) lt (omega (arith, c.if-to-world.false))))
 
 pub deliver-requires : goal.deliver-requires
 deliver-requires g c =
     let places = c.args.places.now.items in
     let place = c.in-Some.place.now in
     let here : slice_get places c.args.k ≡ Some place = slice_get_read places (length places) c.args.k place refl (c.in-Some.ensures.item.3).0 c.in-Some.ensures.value in
-    has_wire g.O.OpVector.answer c.args.world.now g.shown c.args.k places places place g.shown.cluster c.push.new.self place.arrivals None [] c.requires.1.1 here (c.requires.1.1.arrivals c.args.k place here).many
+    has_wire g.O.OpVector.answer c.args.world.now c.requires.shown c.args.k places places place c.requires.shown.cluster c.push.new.self place.arrivals None [] c.requires.shows here (c.requires.shows.arrivals c.args.k place here).many
 
 pub returns-in_ok-deliver-in-Ok : goal.returns-in_ok-deliver-in-Ok
-returns-in_ok-deliver-in-Ok g c =
-    let shown = g.shown in
+returns-in_ok-deliver-in-Ok g c at =
+    let shown = at.shown in
     let world = c.args.world.now in
     let places = c.args.places.now.items in
     let place = c.in-Some.place.now in
@@ -42,8 +43,8 @@ returns-in_ok-deliver-in-Ok g c =
     let entry = c.in-Ok.out.entry in
     let sends = c.in-Ok.out.sends in
     let here : slice_get places k ≡ Some place = slice_get_read places (length places) k place refl (c.in-Some.ensures.item.3).0 c.in-Some.ensures.value in
-    let lt : k < world.nodes = subst (λ (n : ℕ). k < n) c.requires.1.1.many (c.in-Some.ensures.item.3).0 in
-    let n = c.requires.1.1.node k place here in
+    let lt : k < world.nodes = subst (λ (n : ℕ). k < n) at.shows.many (c.in-Some.ensures.item.3).0 in
+    let n = at.shows.node k place here in
     let ok = c.in-Ok.ensures.ok in
     let e : led world (g.O.OpVector.answer shown.ops) ok.0 (pushed (shown.cluster.nodes k) (record { 0 = c.args.to })) ≡ Some (is_advanced (record node.state { out = sends }) entry) =
     ap (λ (o : _). led world (g.O.OpVector.answer o) ok.0 (pushed (shown.cluster.nodes k) (record { 0 = c.args.to }))) (sym n.ops_is)
@@ -51,16 +52,16 @@ returns-in_ok-deliver-in-Ok g c =
     ∙ ok.1.0 in
     stepped_made g.O.OpVector.answer world shown k places c.deliver.new.places.items place shown.cluster node place.arrivals entry sends (Push k c.args.to) ok.0 (lt, omega (arith, c.if-to-world.false))
     (ap (option_map (turned_at shown.cluster k)) e)
-    (stepped_shows g.O.OpVector.answer world shown k places c.deliver.new.places.items place shown.cluster node place.arrivals entry sends c.requires.1.1 here (λ l. refl) (λ from l ne. refl) (c.requires.1.1.arrivals k place here)
+    (stepped_shows g.O.OpVector.answer world shown k places c.deliver.new.places.items place shown.cluster node place.arrivals entry sends at.shows here (λ l. refl) (λ from l ne. refl) (at.shows.arrivals k place here)
     (c.in-Ok.ensures.ops ∙ n.ops_is) c.in-Ok.ensures.running ok.1.1 c.in_ok-deliver-in-Ok.ensures)
 
 pub returns-in-Err-Idle : goal.returns-in-Err-Idle
-returns-in-Err-Idle g c =
+returns-in-Err-Idle g c at =
     let places = c.args.places.now.items in
     let place = c.in-Some.place.now in
     let here : slice_get places c.args.k ≡ Some place = slice_get_read places (length places) c.args.k place refl (c.in-Some.ensures.item.3).0 c.in-Some.ensures.value in
-    let n = c.requires.1.1.node c.args.k place here in
+    let n = at.shows.node c.args.k place here in
     let refused = subst (λ r. PushRefuses r place.node c.push.new.self) c.in-Err-Idle.field-0-is c.in-Err-Idle.ensures.refused in (
-      right_idle (nat_lt c.args.k c.args.world.now.nodes) _ (right_idle (nat_lt c.args.to c.args.world.now.nodes) (is_some (first_movable (g.shown.cluster.nodes c.args.k).ready)) (ap (λ (s : State). is_some (first_movable s.ready)) (sym n.state_is) ∙ ap is_some refused.0)),
-      put_back_shows c.args.world.now.nodes g.shown places c.args.k place _ c.requires.1.1 here (ap (λ node. record { node = node; arrivals = place.arrivals }) refused.1),
+      right_idle (nat_lt c.args.k c.args.world.now.nodes) _ (right_idle (nat_lt c.args.to c.args.world.now.nodes) (is_some (first_movable (at.shown.cluster.nodes c.args.k).ready)) (ap (λ (s : State). is_some (first_movable s.ready)) (sym n.state_is) ∙ ap is_some refused.0)),
+      put_back_shows c.args.world.now.nodes at.shown places c.args.k place _ at.shows here (ap (λ node. record { node = node; arrivals = place.arrivals }) refused.1),
     )

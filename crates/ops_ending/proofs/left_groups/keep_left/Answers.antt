@@ -6,4 +6,4 @@ use Rattle.ops_ending.specs.Ending.{goes}
 use Rattle.ops_ending.proofs.left_groups.keep_left.Goals as goal
 
 pub returns : goal.returns
-returns c = filter_same _ (λ m. not (passes (goes c.args.end.pid c.args.end.vanishes) (vproc_in c.args.before.now m.pid))) _ (λ x b f k. search rules) _ _ c.retain.ensures
+returns c = filter_same _ (λ m. not (passes (goes c.args.end.pid c.args.end.vanishes) (vproc_in c.args.bag.now m.pid))) _ (λ x b f k. search rules) _ _ c.retain.ensures

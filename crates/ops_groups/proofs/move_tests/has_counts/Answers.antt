@@ -1,4 +1,4 @@
-use Rattle.std.proofs.Common.{List, All, sym, subst}
+use Rattle.std.proofs.Common.{List, All, subst}
 use Rattle.std.specs.Prelude.{Option}
 use Rattle.ordered_table.specs.declared.Entry.{Entry}
 use Rattle.group_record.specs.declared.Group.{Group}

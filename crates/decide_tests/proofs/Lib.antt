@@ -1,0 +1,3 @@
+mod FewRows
+mod Fitting
+mod Alone

@@ -1,0 +1,3 @@
+pub mod FewTurns
+pub mod LineNumbers
+pub mod Meanings

@@ -1,0 +1,11 @@
+pub mod Results
+pub mod Words
+pub mod Phases
+pub mod Steps
+pub mod Rows
+pub mod Drafts
+pub mod Complete
+pub mod Read
+pub mod Wrong
+pub mod Least
+pub mod Either

@@ -1,0 +1,5 @@
+mod Named
+mod Heard
+mod Ended
+pub mod Runs
+mod Single

@@ -1,0 +1,3 @@
+pub mod Locked
+pub mod MayTurn
+pub mod Merged

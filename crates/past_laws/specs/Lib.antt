@@ -1,0 +1,3 @@
+pub mod MethodBehind
+pub mod Laws
+pub mod Numbers

@@ -1,0 +1,3 @@
+pub mod Seen
+pub mod Own
+pub mod Joining

@@ -1,0 +1,4 @@
+pub mod Stamps
+pub mod Runs
+pub mod Single
+pub mod LoadLaws

@@ -1,0 +1,4 @@
+pub mod RunOf
+pub mod Replay
+pub mod Load
+pub mod MethodRuns
