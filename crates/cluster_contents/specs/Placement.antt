@@ -23,6 +23,7 @@ use Rattle.record_table.specs.declared.slot.Slot.TheVariants.{Home, Out}
 use Rattle.record_table.specs.declared.slot.Line.{Line}
 use Rattle.courier_core.specs.declared.courier.Courier.{Courier}
 use Rattle.courier_core.specs.Wants.{is_name, lists}
+use Rattle.unix_names.specs.declared.limits.TheConstants.{NO_PID, PIDS_PER_NODE}
 
 -- the containers: a node's ready queue and its parked images, the line at a name's home, the wire from one node to another
 pub data Where : Type 0 where
@@ -92,10 +93,10 @@ pub record IsUngiven (world : World) (serials : ℕ → ℕ) (q : ℕ) : Type 0 
   pub node : ℕ
   pub serial : ℕ
   pub within : node < world.nodes
-  pub is : q ≡ 1000000 * node + serial
+  pub is : q ≡ PIDS_PER_NODE * node + serial
   pub from : serials node ≤ serial
-  pub small : serial < 1000000
-  pub somebody : q ≢ 999999
+  pub small : serial < PIDS_PER_NODE
+  pub somebody : q ≢ NO_PID
 
 -- a number that no node is still to give out
 abbrev pub Known : World → Contents → ℕ → Type 0

@@ -20,6 +20,7 @@ use Rattle.kernel_model.specs.Sound.{IsSound}
 use Rattle.process_table.specs.Rows.{is_pid, is_parent, row_of}
 use Rattle.kernel_rules.specs.Kill.{is_permitted}
 use Rattle.kernel_model.specs.Step.{process_of, verdict, after, sent}
+use Rattle.unix_names.specs.declared.limits.TheConstants.{NO_PID}
 
 -- ---- what changes of a row beside its signals
 -- the process ends
@@ -103,7 +104,7 @@ pub record IsChildOf (caller : Row) (n : ℕ) (child : Row) : Type 0 where
 -- the number names no row, no group and no session
 pub record IsUnused (rows : List Row) (n : ℕ) : Type 0 where
   pub least : 2 ≤ n
-  pub somebody : n ≢ 999999
+  pub somebody : n ≢ NO_PID
   pub no_pid : (c : Row) → row_of rows c.pid ≡ Some c → c.pid.0 ≢ n
   pub no_group : (c : Row) → row_of rows c.pid ≡ Some c → c.group.0 ≢ n
   pub no_session : (c : Row) → row_of rows c.pid ≡ Some c → c.session.0 ≢ n

@@ -9,18 +9,19 @@ use Rattle.unix_calls.specs.declared.Reply.TheVariants.{Number}
 use Rattle.signal_state.specs.Sig.{child}
 use Rattle.process_table.specs.Rows.{child_count, pid}
 use Rattle.process_table.specs.declared.Row.{Row}
+use Rattle.unix_names.specs.declared.limits.TheConstants.{MOST_CHILDREN, NO_PID}
 
 -- ---- refusals
--- a process has at most 64 children, ended ones counted
+-- how many children a process has at most, ended ones counted
 abbrev pub fork_refusal : List Row → Row → Option Errno
-fork_refusal rows r = if nat_le 64 (child_count rows r.pid) then Some EAGAIN else None
+fork_refusal rows r = if nat_le MOST_CHILDREN (child_count rows r.pid) then Some EAGAIN else None
 
 -- ---- replies: the child's pid is no active process's and no active group's
 abbrev pub uses_number : ℕ → Row → Bool
 uses_number n r = (r.pid.0 == n) || ((r.group.0 == n) || (r.session.0 == n))
 
 abbrev pub is_fresh : List Row → ℕ → Bool
-is_fresh rows n = nat_le 2 n && (not (n == 999999) && not (list_any (uses_number n) rows))
+is_fresh rows n = nat_le 2 n && (not (n == NO_PID) && not (list_any (uses_number n) rows))
 
 abbrev pub is_fresh_number : List Row → Reply → Bool
 is_fresh_number rows (Number n) = is_fresh rows n

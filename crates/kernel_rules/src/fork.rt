@@ -5,10 +5,7 @@ ghost use Rattle.kernel_rules.specs.Fork.{fork_refusal, uses_number, is_fresh, i
 
 use process_table::{ProcessTable, Row, count_children};
 use unix_calls::Reply;
-use unix_names::{Errno, Life, NOBODY, NoMemory, Pid, SYSTEM};
-
-/// How many children a process may have, ended ones counted.
-pub const MOST_CHILDREN: usize = 64;
+use unix_names::{Errno, Life, MOST_CHILDREN, NOBODY, NoMemory, Pid, SYSTEM};
 
 pub fn fork_refusal(rows: &[Row], caller: &Row) -> Option<Errno>
     ensures { result ≡ fork_refusal rows.now caller.now }

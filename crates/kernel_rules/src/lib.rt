@@ -22,7 +22,7 @@ pub use calls::{allows, call, refusal};
 pub use events::{
     can_call, happen, has_terminal_stop, is_caught, is_discarded, look_up, may_happen, stops,
 };
-pub use fork::{MOST_CHILDREN, is_fresh};
+pub use fork::is_fresh;
 pub use kill::is_permitted;
 pub use orphans::groups_at_risk;
 pub use setpgid::{target_pid, wanted_group};

@@ -20,6 +20,7 @@ use Rattle.record_bag.specs.Decisions.{Answered}
 use Rattle.decide_law.specs.Places.{named_or}
 use Rattle.decide_law.specs.Arrivals.{done_at}
 use Rattle.decide_law.specs.Effects.{only, folded, emptied, Effect, replied, done_by, on_base}
+use Rattle.unix_names.specs.declared.limits.TheConstants.{MOST_CHILDREN}
 
 -- the record of the child of v that is made at a site: of its parent's group, session and user, with no children and nothing on its way
 abbrev pub born_record : Vproc → Site → Vproc
@@ -58,9 +59,9 @@ fork_effect sig p site v = record {
   groups = only v.group (option_map (joins site.fresh v.uid));
 }
 
--- a process has at most 64 children, ended ones counted
+-- whether a process has as many children as it may have, ended ones counted
 abbrev pub is_full : Vproc → Bool
-is_full v = nat_le 64 (length v.children)
+is_full v = nat_le MOST_CHILDREN (length v.children)
 
 -- the answer on the records of the caller and of its group: a fork that is not refused is done at the child's node, which is the one that is named, or else the parent's place
 abbrev pub fork_answer : Option NodeId → Site → Own → Bag → Pid → Vproc → Group → Answered

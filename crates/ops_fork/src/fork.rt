@@ -18,8 +18,8 @@ use record_bag::{Bag, Decided, Outcome, Site};
 use signal_state::Own;
 use std::alloc::Global;
 use unix_calls::{Call, Entry, Phase, Reply};
-use unix_names::{Errno, NoMemory, NodeId, Pid, Seq};
-use vproc_record::{MOST_CHILDREN, Vproc};
+use unix_names::{Errno, MOST_CHILDREN, NoMemory, NodeId, Pid, Seq};
+use vproc_record::Vproc;
 
 // The names of a bag rise.
 fn both_rise(bag: &Bag)

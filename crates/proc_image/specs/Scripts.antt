@@ -12,6 +12,7 @@ use Rattle.unix_calls.specs.declared.Reply.TheVariants.{Number, Again}
 use Rattle.unix_calls.specs.declared.Statement.{Statement}
 use Rattle.unix_calls.specs.declared.Statement.TheVariants.{Getpid, Getppid, Getpgid, Getsid, Fork, Exec, Exit, Wait, Kill, Setpgid, Setsid, Action, Mask, Pending, Migrate}
 use Rattle.unix_calls.specs.declared.World.{World}
+use Rattle.unix_names.specs.declared.limits.TheConstants.{NO_PID}
 
 -- how far a process is: who forked it, its script, the number of its next statement, and what its variables hold
 pub record Progress : Type 0 where
@@ -22,7 +23,7 @@ pub record Progress : Type 0 where
 
 -- the pid that no process has, and that a variable holds before it is assigned
 abbrev pub nobody : ℕ
-nobody = 999999
+nobody = NO_PID
 
 -- the pid that a statement names
 abbrev pub argument : Pid → Progress → Arg → ℕ

@@ -84,24 +84,37 @@ fn run_text(
     ensures { IfOk result (λ text. WritesRun format world.now schedule.now text.items) }
 {
     let played = run(alloc, UnixOps, world, schedule)?;
-    history_text(alloc, format, world, &played)
+    history_text(alloc, format, world, played)
 }
 
-// The history of what was played, as text.
+// The history of what was played, as text. What the text does not need is let go before it is written, since both grow with
+// the turns.
 fn history_text(
     alloc: Global,
     format: Format,
     world: &World,
-    played: &Played,
+    played: Played,
 ) -> Result<Vec<u8>, NoMemory>
-    requires { CanBeWritten world.now played.now }
-    ensures { IfOk result (λ text. text.items ≡ written format world.now played.now.entries.items played.now.numbers.items played.now.is_quiet) }
+    requires { CanBeWritten world.now played }
+    ensures { IfOk result (λ text. text.items ≡ written format world.now played.entries.items played.numbers.items played.is_quiet) }
 {
+    let Played {
+        entries,
+        numbers,
+        steps,
+        is_quiet,
+    } = played;
+    drop(steps);
     match format {
-        Format::One => put_history(alloc, &played.entries, played.is_quiet),
+        Format::One => {
+            drop(numbers);
+            put_history(alloc, &entries, is_quiet)
+        }
         Format::Two => {
-            let entries = stamp(alloc, world, &played.entries, &played.numbers)?;
-            put_history_two(alloc, &entries, played.is_quiet)
+            let stamped = stamp(alloc, world, &entries, &numbers)?;
+            drop(entries);
+            drop(numbers);
+            put_history_two(alloc, &stamped, is_quiet)
         }
     }
 }

@@ -1,3 +1,4 @@
 pub mod Numbers
+mod ShortWords
 pub mod Spelled
 mod Texts

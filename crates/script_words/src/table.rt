@@ -80,11 +80,17 @@ pub fn verb_word(verb: Verb) -> &'static str
     }
 }
 
+// No verb has a shorter word.
+const SHORTEST_VERB: usize = 4;
+
 /// The verb of a word. None exactly for a word that no verb has.
 #[tactic(auto, unfolding(crate::specs::Table::verb_named))]
 pub fn verb_named(word: &[u8]) -> Option<Verb>
     ensures { result ≡ spec.verb_named word.now }
 {
+    if word.len() < SHORTEST_VERB {
+        return None;
+    }
     ALL_VERBS
         .iter()
         .copied()

@@ -1,19 +1,17 @@
 // The children of a process.
 ghost use Rattle.std.specs.Prelude.{◌≡◌, ◌≤◌, ◌↔◌, [], ◌∷◌, ◌++◌, length, IsErr, OnOk, OnErr};
+ghost use Rattle.unix_names.specs.declared.limits.TheConstants.{MOST_CHILDREN};
 ghost use Rattle.vproc_record.specs.Lists.{without};
 
 use arrayvec::ArrayVec;
 use std::marker::Model;
-use unix_names::Pid;
-
-/// How many children a process has at most, ended ones counted that it has not waited for.
-pub const MOST_CHILDREN: usize = 64;
+use unix_names::{MOST_CHILDREN, Pid};
 
 /// A process has as many children as it may have.
 #[derive(Clone, Copy, Debug, PartialEq, Eq)]
 pub struct Full;
 
-/// The children of a process in order of creation, at most 64. Contracts see the list.
+/// The children of a process in order of creation, at most `MOST_CHILDREN`. Contracts see the list.
 #[derive(Debug, Drop)]
 pub struct Children {
     pids: ArrayVec<Pid, MOST_CHILDREN>,
@@ -21,13 +19,14 @@ pub struct Children {
 
 impl Model for Children {
     ghost use Rattle.std.specs.Prelude.{List, ◌≤◌, length};
+    ghost use Rattle.unix_names.specs.declared.limits.TheConstants.{MOST_CHILDREN};
     ghost use Rattle.unix_names.specs.declared.Pid.{Pid};
 
     ghost Value = { List Pid };
 
     ghost view = { λ c. c.pids.items };
 
-    ghost invariant = { λ c. length c.pids.items ≤ 64 };
+    ghost invariant = { λ c. length c.pids.items ≤ MOST_CHILDREN };
 }
 
 impl Children {
@@ -43,7 +42,7 @@ impl Children {
     /// How many children there are.
     pub fn len(&self) -> usize
         ensures count { result ≡ length self.now }
-        ensures fits { length self.now ≤ 64 }
+        ensures fits { length self.now ≤ MOST_CHILDREN }
     {
         self.pids.len()
     }
@@ -51,14 +50,14 @@ impl Children {
     /// The children in order of creation.
     pub fn as_slice(&self) -> &[Pid]
         ensures items { result.now ≡ self.now }
-        ensures fits { length self.now ≤ 64 }
+        ensures fits { length self.now ≤ MOST_CHILDREN }
     {
         self.pids.as_slice()
     }
 
-    /// Puts a child last. Full exactly where 64 are listed.
+    /// Puts a child last. Full exactly where as many are listed as a process may have.
     pub fn add(&mut self, child: Pid) -> Result<(), Full>
-        ensures full { IsErr result ↔ (length self.old ≡ 64) }
+        ensures full { IsErr result ↔ (length self.old ≡ MOST_CHILDREN) }
         ensures ok { OnOk result (self.new ≡ self.old ++ child ∷ []) }
         ensures err { OnErr result (self.new ≡ self.old) }
     {

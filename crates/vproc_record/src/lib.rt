@@ -4,5 +4,5 @@
 mod children;
 mod vproc;
 
-pub use children::{Children, Full, MOST_CHILDREN};
+pub use children::{Children, Full};
 pub use vproc::Vproc;
