@@ -67,7 +67,7 @@ pub fn audit(alloc: Global, world: &World, entries: &[Entry]) -> Result<Judged, 
 
 impl Judge {
     /// The judge before the first entry.
-    pub fn begin(alloc: Global, world: &World) -> Result<Judge, NoMemory>
+    pub(crate) fn begin(alloc: Global, world: &World) -> Result<Judge, NoMemory>
         requires { IsValid world.now }
         ensures kernel { IfOk result (λ judge. judge.kernel ≡ boot world.now) }
         ensures running { IfOk result (λ judge. running_of judge.images ≡ first_running world.now) }
@@ -78,8 +78,8 @@ impl Judge {
         Ok(Judge { kernel, images })
     }
 
-    /// Judges the next entry, and takes it in where it breaks no rule. An illegal entry ends the judgement: the judge is of no use afterwards.
-    pub fn step(
+    /// Judges the next entry, and takes it in where it breaks no rule. An illegal entry ends the judgement, and so does want of memory: the judge is of no use afterwards.
+    pub(crate) fn step(
         &mut self,
         alloc: Global,
         world: &World,

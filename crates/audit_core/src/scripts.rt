@@ -16,7 +16,7 @@ use unix_calls::{Call, Entry, Phase, Reply, World};
 use unix_names::{NOBODY, NoMemory, Pid, Seq};
 
 /// Each start at the first statement of its script.
-pub fn first_images(alloc: Global, world: &World) -> Result<Table<Image>, NoMemory>
+pub(crate) fn first_images(alloc: Global, world: &World) -> Result<Table<Image>, NoMemory>
     requires { IsValid world.now }
     ensures running { IfOk result (λ images. running_of images ≡ first_running world.now) }
     ensures kept { IfOk result (IsKept world.now) }
@@ -31,7 +31,7 @@ pub fn first_images(alloc: Global, world: &World) -> Result<Table<Image>, NoMemo
 }
 
 /// Whether a call is its process's next statement. An event may stand anywhere.
-pub fn is_in_order(images: &Table<Image>, world: &World, entry: &Entry) -> bool
+pub(crate) fn is_in_order(images: &Table<Image>, world: &World, entry: &Entry) -> bool
     requires { IsKept world.now images.now }
     ensures { IsTrue result ↔ IsInOrder world.now (running_of images.now) entry.now }
 {
@@ -41,8 +41,8 @@ pub fn is_in_order(images: &Table<Image>, world: &World, entry: &Entry) -> bool
     }
 }
 
-/// Moves the process of a call on, and begins the script of a child that was forked. An event moves none.
-pub fn move_on(
+/// Moves the process of a call on, and begins the script of a child that was forked. An event moves none. After NoMemory the process may have moved on without its child.
+pub(crate) fn move_on(
     images: &mut Table<Image>,
     alloc: Global,
     world: &World,

@@ -1,5 +1,5 @@
 // What is on its way to one node.
-ghost use Rattle.std.specs.Prelude.{◌≡◌, ◌<◌, ◌++◌, ◌∷◌, ◌-◌, ◌^◌, [], false, length, replicate, slice_get, slice_set, slice_index_or, IsTrue, ◌↔◌, IfOk, IfSome, OnOk, OnSome, IfNone};
+ghost use Rattle.std.specs.Prelude.{◌≡◌, ◌<◌, ◌++◌, ◌∷◌, ◌-◌, ◌^◌, [], false, length, replicate, slice_get, slice_set, slice_index_or, IsTrue, ◌↔◌, IfOk, IfSome, OnOk, OnErr, OnSome, IfNone};
 ghost use Rattle.cluster_core.specs.MethodArrivals.{first_heard, AllSilent};
 
 use node_state::Sent;
@@ -43,10 +43,11 @@ impl Arrivals {
         })
     }
 
-    /// A message goes to the end of the wire from a node.
+    /// A message goes to the end of the wire from a node. After NoMemory nothing has changed.
     pub fn put(&mut self, from: u32, sent: Sent) -> Result<(), NoMemory>
         requires { from < length self.old }
-        ensures { OnOk result (self.new ≡ slice_set self.old from (slice_index_or self.old from [] ++ sent ∷ [])) }
+        ensures ok { OnOk result (self.new ≡ slice_set self.old from (slice_index_or self.old from [] ++ sent ∷ [])) }
+        ensures err { OnErr result (self.new ≡ self.old) }
     {
         self.is_heard = true;
         match self.wires[from as usize].push(sent) {

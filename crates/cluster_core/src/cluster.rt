@@ -69,7 +69,7 @@ fn deliver<O: OpVector>(
 }
 
 /// The first of a node's ready queue has its turn. None exactly where there is no such node, or nobody is ready there.
-pub fn go<O: OpVector>(
+pub(crate) fn go<O: OpVector>(
     places: &mut Vec<Place<O>>,
     alloc: Global,
     world: &World,
@@ -92,7 +92,7 @@ pub fn go<O: OpVector>(
 }
 
 /// The first image of a node's ready queue that is not stopped sets out for another node. None exactly where there is no such node, or none to be moved.
-pub fn push<O: OpVector>(
+pub(crate) fn push<O: OpVector>(
     places: &mut Vec<Place<O>>,
     alloc: Global,
     world: &World,
@@ -119,7 +119,7 @@ pub fn push<O: OpVector>(
 }
 
 /// A node takes the oldest message on the wire from another. None exactly where there is no such node, or no message.
-pub fn take<O: OpVector>(
+pub(crate) fn take<O: OpVector>(
     places: &mut Vec<Place<O>>,
     alloc: Global,
     world: &World,
@@ -149,6 +149,9 @@ pub fn take<O: OpVector>(
 }
 
 /// A turn of a schedule. None exactly where it is not possible; `auto` stands for other turns.
+///
+/// # Errors
+/// NoMemory where a node, or a wire to one, finds none. The places are of no use then: the node has failed for good, or what it sends has come in part.
 pub fn turn<O: OpVector>(
     places: &mut Vec<Place<O>>,
     alloc: Global,

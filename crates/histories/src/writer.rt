@@ -1,12 +1,13 @@
 // The text of a history.
-ghost use Rattle.std.specs.Prelude.{◌≡◌, ◌++◌, ◌∷◌, [], All, IfOk, OnOk};
+ghost use Rattle.std.specs.Prelude.{◌≡◌, ◌++◌, ◌∷◌, [], All, IfOk, OnOk, take, length};
 ghost use Rattle.std.specs.String.{string_bytes};
 ghost use Rattle.unix_calls.specs.Calls.{IsEntry};
 ghost use Rattle.script_words.specs.Writing.{spaced};
 ghost use Rattle.histories.specs.History.{set_words, call_word, argument_words, call_words, status_words, reply_words, event_words, line_of, last_line, text as text_of};
 
 use script_words::{
-    Verb, act_word, errno_word, put_changes, put_members, put_signal, put_word, verb_word,
+    Verb, act_word, errno_word, put_changes, put_members, put_number, put_signal, put_word,
+    verb_word,
 };
 use std::alloc::{AllocError, Global};
 use unix_calls::{Call, Entry, Event, Reply};
@@ -26,7 +27,7 @@ pub fn put_history(alloc: Global, entries: &[Entry], is_quiet: bool) -> Result<V
 }
 
 /// Puts the last line at the end of a text. Where memory runs out the text may have part of it.
-pub fn put_last(text: &mut String, is_quiet: bool) -> Result<(), AllocError>
+pub(crate) fn put_last(text: &mut String, is_quiet: bool) -> Result<(), AllocError>
     ensures { OnOk result (string_bytes text.new ≡ string_bytes text.old ++ last_line is_quiet) }
 {
     if is_quiet {
@@ -37,7 +38,7 @@ pub fn put_last(text: &mut String, is_quiet: bool) -> Result<(), AllocError>
 }
 
 /// Puts the line of an entry at the end of a text. Where memory runs out the text may have part of it.
-pub fn put_entry(text: &mut String, entry: &Entry) -> Result<(), AllocError>
+pub(crate) fn put_entry(text: &mut String, entry: &Entry) -> Result<(), AllocError>
     ensures { OnOk result (string_bytes text.new ≡ string_bytes text.old ++ line_of entry.now) }
 {
     match *entry {
@@ -154,21 +155,26 @@ fn put_event(text: &mut String, event: Event) -> Result<(), AllocError>
     }
 }
 
-/// Puts how a process ended or changed at the end of a text. Where memory runs out the text may have part of it.
+/// Puts how a process ended or changed at the end of a text. Where memory runs out part of it may stand there; what stood before stays.
 pub fn put_status(text: &mut String, status: WaitStatus) -> Result<(), AllocError>
-    ensures { OnOk result (string_bytes text.new ≡ string_bytes text.old ++ spaced (status_words status)) }
+    ensures ok { OnOk result (string_bytes text.new ≡ string_bytes text.old ++ spaced (status_words status)) }
+    ensures kept { take (length (string_bytes text.old)) (string_bytes text.new) ≡ string_bytes text.old }
 {
     match status {
-        WaitStatus::Exited(number) => write!(text, " exited {number}"),
+        WaitStatus::Exited(number) => {
+            text.push_str(" exited")?;
+            put_number(text, u32::from(number))
+        }
         WaitStatus::Killed(signal) => put_two(text, " killed", word_of(signal)),
         WaitStatus::Stopped(signal) => put_two(text, " stopped", word_of(signal)),
         WaitStatus::Continued => text.push_str(" continued"),
     }
 }
 
-/// Puts the words of a set's signals by number, or a dash, at the end of a text. Where memory runs out the text may have part of it.
+/// Puts the words of a set's signals by number, or a dash, at the end of a text. Where memory runs out part of them may stand there; what stood before stays.
 pub fn put_set(text: &mut String, set: SigSet) -> Result<(), AllocError>
-    ensures { OnOk result (string_bytes text.new ≡ string_bytes text.old ++ spaced (set_words set)) }
+    ensures ok { OnOk result (string_bytes text.new ≡ string_bytes text.old ++ spaced (set_words set)) }
+    ensures kept { take (length (string_bytes text.old)) (string_bytes text.new) ≡ string_bytes text.old }
 {
     if set.is_empty() {
         return text.push_str(" -");
@@ -178,7 +184,8 @@ pub fn put_set(text: &mut String, set: SigSet) -> Result<(), AllocError>
 
 // A first piece, and a word behind a space.
 fn put_two(text: &mut String, first: &str, word: &str) -> Result<(), AllocError>
-    ensures { OnOk result (string_bytes text.new ≡ string_bytes text.old ++ first.now ++ 32 ∷ word.now) }
+    ensures ok { OnOk result (string_bytes text.new ≡ string_bytes text.old ++ first.now ++ 32 ∷ word.now) }
+    ensures kept { take (length (string_bytes text.old)) (string_bytes text.new) ≡ string_bytes text.old }
 {
     text.push_str(first)?;
     put_word(text, word)

@@ -23,7 +23,7 @@ impl<'a> Model for Names<'a> {
 }
 
 impl<'a> Names<'a> {
-    pub fn new(alloc: Global) -> Names<'a>
+    pub(crate) fn new(alloc: Global) -> Names<'a>
         ensures { result ≡ [] }
     {
         Names {
@@ -32,14 +32,14 @@ impl<'a> Names<'a> {
     }
 
     /// The place of a name, where it is one of these.
-    pub fn number_of(&self, word: &[u8]) -> Option<usize>
+    pub(crate) fn number_of(&self, word: &[u8]) -> Option<usize>
         ensures { result ≡ position (λ name. bytes_eq name word.now) self.now }
     {
         place_of(&self.words, word)
     }
 
     /// Takes one name more.
-    pub fn push(&mut self, word: &'a [u8]) -> Result<(), NoMemory>
+    pub(crate) fn push(&mut self, word: &'a [u8]) -> Result<(), NoMemory>
         ensures { OnOk result (self.new ≡ self.old ++ word.now ∷ []) }
     {
         self.words.push(word)?;

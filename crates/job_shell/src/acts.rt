@@ -44,7 +44,7 @@ fn join(stage: usize, first: usize) -> Statement
 }
 
 /// A signal to the group of a first stage.
-pub fn send(first: usize, signal: Signal) -> Statement
+pub(crate) fn send(first: usize, signal: Signal) -> Statement
     ensures { result ≡ statement_of (act.Send first signal) }
 {
     Statement::Kill {
@@ -55,7 +55,7 @@ pub fn send(first: usize, signal: Signal) -> Statement
 }
 
 /// Puts the steps at the end of a script by which stages are forked, from a number on.
-pub fn put_begins(
+pub(crate) fn put_begins(
     script: &mut Seq<Statement>,
     statuses: &[u8],
     first: usize,
@@ -72,7 +72,7 @@ pub fn put_begins(
 }
 
 /// Puts the steps at the end of a script by which stages get the group of the first, from a number on.
-pub fn put_joins(
+pub(crate) fn put_joins(
     script: &mut Seq<Statement>,
     first: usize,
     stages: &[Stage],
@@ -87,7 +87,7 @@ pub fn put_joins(
 }
 
 /// Puts the steps at the end of a script by which stages are waited for, from a number on.
-pub fn put_reaps(
+pub(crate) fn put_reaps(
     script: &mut Seq<Statement>,
     first: usize,
     stages: &[Stage],

@@ -33,7 +33,7 @@ pub struct Bodies {
 impl Bodies {
     /// Before the first line.
     #[tactic(auto, unfolding(crate::specs::MethodReading::scripts_with))]
-    pub fn new(alloc: Global) -> Bodies
+    pub(crate) fn new(alloc: Global) -> Bodies
         ensures { result ≡ record { whole = []; begun = false; last = [] } }
     {
         Bodies {
@@ -45,7 +45,7 @@ impl Bodies {
 
     /// Takes the next line, given its words and what it says.
     #[tactic(auto, unfolding(crate::specs::MethodReading::scripts_with))]
-    pub fn take_line(
+    pub(crate) fn take_line(
         &mut self,
         alloc: Global,
         words: &[&[u8]],
@@ -80,7 +80,7 @@ impl Bodies {
 
     /// The scripts, behind the last line.
     #[tactic(auto, unfolding(crate::specs::MethodReading::scripts_with))]
-    pub fn finish(self) -> Result<Seq<Script>, NoMemory>
+    pub(crate) fn finish(self) -> Result<Seq<Script>, NoMemory>
         ensures { IfOk result (λ scripts. scripts ≡ scripts_with self []) }
     {
         let Bodies {

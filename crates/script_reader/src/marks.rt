@@ -27,7 +27,7 @@ pub struct Marks {
 
 impl Marks {
     /// Before the first line.
-    pub fn new(alloc: Global) -> Marks
+    pub(crate) fn new(alloc: Global) -> Marks
         ensures starts { result.starts ≡ [] }
         ensures fault { result.fault ≡ none }
     {
@@ -38,7 +38,11 @@ impl Marks {
     }
 
     /// Takes what the next line says. Behind a fault no start counts.
-    pub fn take_line(&mut self, number: u32, read: &Result<Item, Kind>) -> Result<(), NoMemory>
+    pub(crate) fn take_line(
+        &mut self,
+        number: u32,
+        read: &Result<Item, Kind>,
+    ) -> Result<(), NoMemory>
         requires node { HasNode read.now }
         requires nodes { HaveNodes self.old.starts }
         ensures nodes { OnOk result (HaveNodes self.new.starts) }

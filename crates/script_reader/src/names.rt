@@ -24,7 +24,7 @@ impl<'a> Model for Numbers<'a> {
 }
 
 impl<'a> Numbers<'a> {
-    pub fn new(alloc: Global) -> Numbers<'a>
+    pub(crate) fn new(alloc: Global) -> Numbers<'a>
         ensures { result ≡ [] }
     {
         Numbers {
@@ -33,21 +33,21 @@ impl<'a> Numbers<'a> {
     }
 
     /// How many words there are.
-    pub fn len(&self) -> usize
+    pub(crate) fn len(&self) -> usize
         ensures { result ≡ length self.now }
     {
         self.first.len()
     }
 
     /// The number of a word, where it has one.
-    pub fn number_of(&self, word: &'a [u8]) -> Option<usize>
+    pub(crate) fn number_of(&self, word: &'a [u8]) -> Option<usize>
         ensures { result ≡ number_in self.now word.now }
     {
         self.first.get(&word).copied()
     }
 
     /// Gives a word a number, unless it has one.
-    pub fn note(&mut self, word: &'a [u8], number: usize) -> Result<(), NoMemory>
+    pub(crate) fn note(&mut self, word: &'a [u8], number: usize) -> Result<(), NoMemory>
         ensures { OnOk result (self.new ≡ noted self.old word.now number) }
     {
         if self.number_of(word).is_none() {

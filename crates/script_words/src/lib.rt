@@ -16,4 +16,4 @@ pub use words::{
     ended, is_minus_digits, is_skipped, is_utf8, is_word, name, node, number, signal,
     signal_number, word_at,
 };
-pub use writing::{put_changes, put_members, put_signal, put_word};
+pub use writing::{put_changes, put_members, put_number, put_signal, put_word};

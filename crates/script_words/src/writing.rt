@@ -1,11 +1,13 @@
 // Words that are put behind a text, each behind a space.
 ghost use Rattle.std.specs.Prelude.{◌≡◌, ◌++◌, ◌∷◌, OnOk, map, filter, take, length};
+ghost use Rattle.std.specs.Fmt.{decimal};
 ghost use Rattle.std.specs.String.{string_bytes};
 ghost use Rattle.unix_names.specs.Signals.{word_of as word};
 ghost use Rattle.unix_names.specs.Sets.{has};
 ghost use Rattle.script_words.specs.Table.{change_words};
 ghost use Rattle.script_words.specs.Writing.{spaced, signal_word, member_words};
 
+use itoa::Buffer;
 use std::alloc::AllocError;
 use unix_names::{ALL_SIGNALS, SigSet, Signal, signal_of, word_of};
 
@@ -18,13 +20,23 @@ pub fn put_word(text: &mut String, word: &str) -> Result<(), AllocError>
     text.push_str(word)
 }
 
-/// Puts a signal's word behind a text, or the number where it is no signal's. Where memory runs out the text is to be given up: what the number left of it is not told.
+/// Puts a number behind a text, in decimal. Where memory runs out part of it may stand there; what stood before stays.
+pub fn put_number(text: &mut String, number: u32) -> Result<(), AllocError>
+    ensures ok { OnOk result (string_bytes text.new ≡ string_bytes text.old ++ 32 ∷ decimal number) }
+    ensures kept { take (length (string_bytes text.old)) (string_bytes text.new) ≡ string_bytes text.old }
+{
+    let mut digits = Buffer::new();
+    put_word(text, digits.format(number))
+}
+
+/// Puts a signal's word behind a text, or the number where it is no signal's. Where memory runs out part of it may stand there; what stood before stays.
 pub fn put_signal(text: &mut String, number: u32) -> Result<(), AllocError>
-    ensures { OnOk result (string_bytes text.new ≡ string_bytes text.old ++ 32 ∷ signal_word number) }
+    ensures ok { OnOk result (string_bytes text.new ≡ string_bytes text.old ++ 32 ∷ signal_word number) }
+    ensures kept { take (length (string_bytes text.old)) (string_bytes text.new) ≡ string_bytes text.old }
 {
     match signal_of(number) {
         Some(signal) => put_word(text, word_of(signal)),
-        None => write!(text, " {number}"),
+        None => put_number(text, number),
     }
 }
 

@@ -11,7 +11,7 @@ use unix_calls::{Arg, Statement};
 use unix_names::NodeId;
 
 /// Puts the words of a statement at the end of a text.
-pub fn put_statement(text: &mut String, statement: &Statement) -> Result<(), AllocError>
+pub(crate) fn put_statement(text: &mut String, statement: &Statement) -> Result<(), AllocError>
     ensures { OnOk result (string_bytes text.new ≡ string_bytes text.old ++ spelled (statement_words statement.now)) }
 {
     match *statement {

@@ -10,7 +10,7 @@ returns-in-Some g c =
     let place = c.in-Some.place.now in
     on_ok c.put.result _ _
     (one_delivered c.args.from c.args.places.now.items m place c.put.new.self (slice_get_read c.args.places.now.items (length c.args.places.now.items) m.to place refl (c.in-Some.ensures.item.3).0 c.in-Some.ensures.value))
-    c.put.ensures
+    c.put.ensures.ok
 
 pub returns-in-None : goal.returns-in-None
 returns-in-None g c = none_there c.args.from c.args.places.now.items c.args.sent (slice_get_past c.args.places.now.items c.args.sent.to c.in-None.ensures.item.3)
