@@ -1,3 +1,4 @@
+pub mod Members
 pub mod Numbers
 pub mod Spelled
 mod Texts
