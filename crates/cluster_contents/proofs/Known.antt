@@ -1,9 +1,8 @@
 -- numbers that were given out
-use Rattle.std.proofs.Common.{◌≡◌, ◌⊎◌, inl, inr, ◌<◌, ◌≤◌, ℕ, zero, suc, pos, Bool, true, false, cond, List, [], ◌∷◌, ◌++◌, ◌||◌, refl, sym, ap, subst, arith, Option, None, Some, All, slice_get}
+use Rattle.std.proofs.Common.{◌≡◌, inl, inr, ◌<◌, ◌≤◌, ℕ, zero, suc, pos, Bool, true, false, List, refl, sym, subst, arith, Option, None, Some, All, slice_get}
 use Rattle.std.specs.Prelude.{neg_ℤ, unwrap_or}
 use Rattle.std.proofs.lemmas.List.Elements.{All-set}
 use Rattle.unix_names.specs.declared.Pid.{Pid}
-use Rattle.unix_names.specs.declared.Name.{Name}
 use Rattle.unix_calls.specs.declared.Arg.{Arg}
 use Rattle.unix_calls.specs.declared.Arg.TheVariants.{Zero, One, Nobody, Own, Maker, Var}
 use Rattle.unix_calls.specs.declared.Call.TheVariants as calls
@@ -20,7 +19,6 @@ use Rattle.proc_image.specs.declared.image.Image.{Image}
 use Rattle.proc_image.specs.Scripts.{Progress, nobody, argument, signed, selected, call_of, call_or_exit, next_statement, next_call, after_wait, after_reply, after_reply_or_exit, moved_on, forked}
 use Rattle.proc_image.specs.Images.{progress_of, next_node, unless_stopped}
 use Rattle.proc_image.proofs.Fits.{All-slice_get}
-use Rattle.courier_core.specs.Wants.{is_name, lists, added, all_added}
 use Rattle.cluster_contents.specs.Placement.{JobFits, Contents, Known}
 use Rattle.decide_law.specs.Needs.{size}
 use Rattle.cluster_contents.specs.Numbers.{IsShort, CallNames, JobNames}
@@ -93,39 +91,6 @@ module _ (Given : ℕ → Type 0) (zero_given : Given 0) (one_given : Given 1) (
 
   pub moved_given : (world : World) (own : Pid) (at : Progress) (reply : Reply) → (next_call world own at ≡ calls.Fork → Given (forked reply)) → ProgressNames Given at → ProgressNames Given (moved_on world at reply)
   moved_given world own at reply forks k = or_exit_given own reply at (next_statement world at) forks k
-
--- ---- lists of names that grow
-or_cases : (a b : Bool) → (a || b) ≡ true → (a ≡ true) ⊎ (b ≡ true)
-or_cases true b e = inl refl
-or_cases false b e = inr e
-
-pub lists-append : (xs ys : List Name) (n : Name) → lists (xs ++ ys) n ≡ true → (lists xs n ≡ true) ⊎ (lists ys n ≡ true)
-lists-append [] ys n e = inr e
-lists-append (x ∷ xs) ys n e = go (or_cases (is_name x n) (lists (xs ++ ys) n) e) (lists-append xs ys n)
-  where
-    go : (is_name x n ≡ true) ⊎ (lists (xs ++ ys) n ≡ true) → (lists (xs ++ ys) n ≡ true → (lists xs n ≡ true) ⊎ (lists ys n ≡ true)) → ((is_name x n || lists xs n) ≡ true) ⊎ (lists ys n ≡ true)
-    go (inl t) rest = inl (ap (λ b. b || lists xs n) t)
-    go (inr t) rest = elim (rest t) [ inl a ↦ inl (or_right (is_name x n) (lists xs n) a) | inr b ↦ inr b ]
-      where
-        or_right : (a b : Bool) → b ≡ true → (a || b) ≡ true
-        or_right true b e = refl
-        or_right false b e = e
-
-added_one : (names : List Name) (m n : Name) (b : Bool) → lists (cond b names (names ++ m ∷ [])) n ≡ true → (lists names n ≡ true) ⊎ (is_name m n ≡ true)
-added_one names m n true e = inl e
-added_one names m n false e = elim (lists-append names (m ∷ []) n e) [ inl a ↦ inl a | inr b ↦ elim (or_cases (is_name m n) false b) [ inl t ↦ inr t | inr f ↦ absurd (cc f) ] ]
-
-pub lists-all_added : (names more : List Name) (n : Name) → lists (all_added names more) n ≡ true → (lists names n ≡ true) ⊎ (lists more n ≡ true)
-lists-all_added names [] n e = inl e
-lists-all_added names (m ∷ ms) n e = go (lists-all_added (added names m) ms n e)
-  where
-    or_right : (a b : Bool) → b ≡ true → (a || b) ≡ true
-    or_right true b e = refl
-    or_right false b e = e
-
-    go : (lists (added names m) n ≡ true) ⊎ (lists ms n ≡ true) → (lists names n ≡ true) ⊎ ((is_name m n || lists ms n) ≡ true)
-    go (inl a) = elim (added_one names m n (lists names m) a) [ inl t ↦ inl t | inr t ↦ inr (ap (λ b. b || lists ms n) t) ]
-    go (inr b) = inr (or_right (is_name m n) (lists ms n) b)
 
 -- ---- the numbers of no node
 pub known_small : (world : World) (W : Contents) (q : ℕ) → ((j : ℕ) → 2 ≤ W.serials j) → q < 2 → Known world W q

@@ -1,5 +1,5 @@
 -- a legal entry whose numbers can be names is one that a history can hold
-use Rattle.std.proofs.Common.{◌≡◌, Bool, true, List, refl, ap, ◌∙◌, sym, subst, Option, None, Some}
+use Rattle.std.proofs.Common.{◌≡◌, true, List, refl, subst, Option, None, Some}
 use Rattle.unix_names.specs.declared.Pid.{Pid}
 use Rattle.unix_names.specs.declared.Errno.{Errno}
 use Rattle.unix_calls.specs.declared.Call.{Call}

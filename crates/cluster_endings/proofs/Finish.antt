@@ -50,7 +50,8 @@ use Rattle.decide_law.specs.Agrees.{RecordAgrees}
 use Rattle.decide_law.specs.Law.{next, IsStep}
 use Rattle.cluster_contents.specs.Standing.{born_at, Standing, ProcessIs, proc_with, proc_child, view_unless_gone, contents_after, serials_after}
 use Rattle.cluster_moves.proofs.Things.{tok_cases, moved-same, moved-other, unseen_proc, shift, slots_proc}
-use Rattle.cluster_moves.proofs.Store.{name_cases, unchanged, slots_same, written, slot_here, slot_others, write_same}
+use Rattle.courier_core.proofs.Keeping.{name_cases}
+use Rattle.cluster_moves.proofs.Store.{unchanged, slots_same, written, slot_here, slot_others, write_same}
 use Rattle.cluster_moves.proofs.Moves.{hand_out, hand_kept, lost_kept, sane_proc, Keeps, But, keeps_proc, Bench, placed_keeps, post_back}
 use Rattle.cluster_moves.proofs.Returns.{carried_some, AllGiven, bag_given, all_nudged_keeps}
 use Rattle.cluster_contents.proofs.Signals.{HeldCase, held_case, held_some, held_none, vproc_present, what_held, what_kept}

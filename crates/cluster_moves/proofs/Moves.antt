@@ -39,7 +39,8 @@ use Rattle.cluster_contents.specs.Placement.{ProcSpot, RecSpot, Sane, Occurs, Fi
 use Rattle.decide_law.specs.Law.{is_stopped_phase}
 use Rattle.cluster_moves.specs.Benches.{stored, with_message, items_at, slots_at}
 use Rattle.cluster_moves.proofs.Things.{pid, tok_cases, moved-same, moved-other, Unseen, unseen_proc, Adds, NotIn, SlotsFit, put_in, take_out, there, shift, slots_proc, slots_away, slots_at as slot_changes}
-use Rattle.cluster_moves.proofs.Store.{name_cases, unchanged, slots_same, ready_adds, post_adds, post_news, written, slot_here, slot_others, write_same, line_changes, parked_adds, parked_there, parked_put}
+use Rattle.courier_core.proofs.Keeping.{name_cases}
+use Rattle.cluster_moves.proofs.Store.{unchanged, slots_same, ready_adds, post_adds, post_news, written, slot_here, slot_others, write_same, line_changes, parked_adds, parked_there, parked_put}
 
 -- ---- bags
 carried_with : (p : Pid) (h : Held) → carried_by p (With p) h ≡ Some h

@@ -1,7 +1,7 @@
 -- records that come home, and news
 use Rattle.std.proofs.Common.{◌≡◌, ◌≢◌, ◌⊎◌, inl, inr, ◌==◌, ◌≤◌, ℕ, Bool, true, false, cond, List, [], ◌∷◌, ◌++◌, map, nat_lt, refl, sym, ap, ◌∙◌, subst, Option, None, Some, append-nil, arith, if◌then◌else◌}
 use Rattle.std.specs.Option.{option_map}
-use Rattle.std.proofs.lemmas.Bool.{eqb-true, ne_eqb, ltb-true, le-ltb, ltb-false}
+use Rattle.std.proofs.lemmas.Bool.{false_from_ne_true, eqb-true, ne_eqb, ltb-true, le-ltb, ltb-false}
 use Rattle.unix_names.specs.declared.Pid.{Pid}
 use Rattle.unix_names.specs.declared.Name.{Name}
 use Rattle.unix_names.specs.declared.Name.TheVariants as name
@@ -36,7 +36,8 @@ use Rattle.cluster_state.specs.Cluster.{Cluster}
 use Rattle.cluster_contents.specs.Placement.{Where, Ready, InLine, Wire, Spot, In, Hand, AtHome, With, Nowhere, Token, Proc, Rec, Places, moved, Contents, CourierItem, RecordItem, carried_by, carried, BagFits, Below, WaitsFor, CourierFits, SlotIs}
 use Rattle.cluster_moves.specs.Benches.{items_at, slots_at}
 use Rattle.cluster_moves.proofs.Things.{unseen_proc, moved-same, moved-other, put_in, shift, slots_away, slots_at as slot_changes}
-use Rattle.cluster_moves.proofs.Store.{name_cases, slots_same, post_adds, written, slot_here, slot_others, write_same, line_changes}
+use Rattle.courier_core.proofs.Keeping.{name_cases}
+use Rattle.cluster_moves.proofs.Store.{slots_same, post_adds, written, slot_here, slot_others, write_same, line_changes}
 use Rattle.cluster_moves.proofs.Moves.{hand_away, with_away, post_nothing, carried_other, apart, hand_out, bag_more, IsOut, None_gone, hand_kept, lost_kept, Keeps, All, But, keeps_same, keeps_then, keeps_less, keeps_proc, keeps_inside, keeps_rec, Bench, After, queue_courier, called_keeps, told_keeps, drop, slots_written, rest, into_bag, step_up, same_bench, courier_on}
 
 -- ---- lists of records by name
@@ -47,6 +48,18 @@ listed (e ∷ es) n = if is_name e.0 n then Some e.1 else listed es n
 abbrev pub Once : List (Name × Held) → Type 0
 Once [] = Unit {0}
 Once (e ∷ es) = (listed es e.0 ≡ None) × Once es
+
+-- what stands behind the first of a list, once the record of the first is in hand
+pub listed_rest : (W : Contents) (L M : Places) (p : Pid) (e : Name × Held) (es : List (Name × Held)) → ((n : Name) → listed (e ∷ es) n ≡ carried W L p n) → Once (e ∷ es) → (n : Name) → carried W M p n ≡ carried W (moved L (Rec e.0) Hand) p n → listed es n ≡ carried W M p n
+listed_rest W L M p e es has once n kept = go (name_cases n e.0)
+  where
+    go : (n ≡ e.0) ⊎ (n ≢ e.0) → listed es n ≡ carried W M p n
+    go (inl same) =
+        ap (listed es) same ∙ once.0
+        ∙ sym (kept ∙ ap (λ x. carried W (moved L (Rec e.0) Hand) p x) same ∙ ap (λ o. carried_by p o (W.what e.0)) (moved-same L (Rec e.0) Hand))
+    go (inr ne) =
+        ap (λ b. cond b (Some e.1) (listed es n)) (sym (false_from_ne_true (is_name e.0 n) (λ t. ne (sym (is_name-true e.0 n t))))) ∙ has n
+        ∙ sym (kept ∙ ap (λ o. carried_by p o (W.what n)) (moved-other L (Rec e.0) Hand (Rec n) (λ x. let same : n ≡ e.0 = cc in ne same)))
 
 listed_vprocs : (es : List (Entry (Option Vproc))) (gs : List (Entry (Option Group))) (p : Pid) → IsRising es → listed (map named_vproc es ++ map named_group gs) (name.V p) ≡ option_map held.V (value_at es p)
 listed_vprocs [] [] p r = refl
@@ -250,7 +263,7 @@ module _ (world : World) (C : Cluster) (k : ℕ) where
       let b1 = drop world C k W L s p m b hand mine.0 in
       let a = given_keeps W L1 s m e.1 b1 (moved-same L (Rec m) Hand) mine.1 in
       let hand2 : a.places (Proc p) ≡ Hand = a.keeps.hand p tt hand in
-      let left : (n : Name) → listed es n ≡ carried W a.places p n = λ n. left_at n a.places (a.keeps.bags p tt (inl hand) n (W.what n)) (name_cases n m) in
+      let left : (n : Name) → listed es n ≡ carried W a.places p n = λ n. listed_rest W L a.places p e es has once n (a.keeps.bags p tt (inl hand) n (W.what n)) in
       let r = all_given W a.places p (given_back s m e.1) es a.bench hand2 left once.1 in
       record {
         places = r.places;
@@ -262,21 +275,6 @@ module _ (world : World) (C : Cluster) (k : ℕ) where
         lost = λ t e. (lost_kept L (Rec m) Hand t (λ x. cc) (a.lost t (r.lost t e))).0;
         hands = λ t e. let h = a.hands t (r.hands t e) in sym (moved-other L (Rec m) Hand t (λ x. h.1 (sym x))) ∙ h.0;
       }
-    where
-      left_at : (n : Name) (M : Places) → carried W M p n ≡ carried W (moved L (Rec e.0) Hand) p n → (n ≡ e.0) ⊎ (n ≢ e.0) → listed es n ≡ carried W M p n
-      left_at n M kept (inl same) =
-          ap (listed es) same ∙ once.0
-          ∙ sym (kept ∙ ap (λ x. carried W (moved L (Rec e.0) Hand) p x) same ∙ ap (λ o. carried_by p o (W.what e.0)) (moved-same L (Rec e.0) Hand))
-      left_at n M kept (inr ne) =
-          ap (λ b. cond b (Some e.1) (listed es n)) (sym (other_name e.0 n (λ x. ne (sym x)))) ∙ has n
-          ∙ sym (kept ∙ ap (λ o. carried_by p o (W.what n)) (moved-other L (Rec e.0) Hand (Rec n) (λ x. let same : n ≡ e.0 = cc in ne same)))
-        where
-          other_name : (a b : Name) → a ≢ b → is_name a b ≡ false
-          other_name a b ne = go (is_name a b) refl
-            where
-              go : (t : Bool) → is_name a b ≡ t → t ≡ false
-              go true t = absurd (ne (is_name-true a b t))
-              go false t = refl
 
   -- a bag of a process in hand is returned
   pub bag_given : (W : Contents) (L : Places) (p : Pid) (s : State) (bag : Bag) → Bench world C k W L s → L (Proc p) ≡ Hand → BagFits W L p bag → AllGiven W L p (all_given_back s (all_held bag))

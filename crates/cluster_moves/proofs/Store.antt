@@ -15,6 +15,7 @@ use Rattle.record_table.specs.declared.slot.Line.{Line}
 use Rattle.record_table.specs.Places.{line_of}
 use Rattle.record_table.specs.Slots.{slot_at, with_slot}
 use Rattle.record_table.proofs.SlotLaws.{slot_at-put_other}
+use Rattle.courier_core.proofs.Keeping.{name_cases}
 use Rattle.courier_core.specs.declared.courier.Courier.{Courier}
 use Rattle.courier_core.specs.declared.courier.Message.{Message}
 use Rattle.courier_core.specs.declared.courier.Message.TheVariants as message
@@ -24,9 +25,9 @@ use Rattle.node_state.specs.declared.Waiting.{Waiting}
 use Rattle.node_state.specs.Places.{queued}
 use Rattle.node_state.specs.Wires.{posted}
 use Rattle.cluster_state.specs.Cluster.{Cluster}
-use Rattle.cluster_contents.specs.Placement.{Where, Ready, Parked, InLine, Wire, Rec, Item, CourierItem, ParkedItem}
+use Rattle.cluster_contents.specs.Placement.{Where, Ready, Parked, InLine, Wire, Item, CourierItem, ParkedItem}
 use Rattle.cluster_moves.specs.Benches.{of_waiting, of_parked, with_message, out_to, stored, owner, flying, items_at, slots_at}
-use Rattle.cluster_moves.proofs.Things.{AddsAt, Adds, tok_cases}
+use Rattle.cluster_moves.proofs.Things.{AddsAt, Adds}
 
 map-append : {X Y : Type 0} (f : X → Y) (xs ys : List X) → map f (xs ++ ys) ≡ map f xs ++ map f ys
 map-append f [] ys = refl
@@ -46,13 +47,6 @@ out-append l (m ∷ ms) ys = go (m.to == l) (out-append l ms ys)
     go : (b : Bool) → out_to l (ms ++ ys) ≡ out_to l ms ++ out_to l ys → cond b (with_message m.message (out_to l (ms ++ ys))) (out_to l (ms ++ ys)) ≡ cond b (with_message m.message (out_to l ms)) (out_to l ms) ++ out_to l ys
     go true rest = ap (with_message m.message) rest ∙ message-append m.message (out_to l ms) (out_to l ys)
     go false rest = rest
-
-pub name_cases : (n m : Name) → (n ≡ m) ⊎ (n ≢ m)
-name_cases n m = go (tok_cases (Rec n) (Rec m))
-  where
-    go : (Rec n ≡ Rec m) ⊎ (Rec n ≢ Rec m) → (n ≡ m) ⊎ (n ≢ m)
-    go (inl e) = inl cc
-    go (inr ne) = inr (λ e. ne (ap Rec e))
 
 module _ (world : World) (C : Cluster) (k : ℕ) where
   abbrev pub at_node : State → ℕ → State

@@ -80,7 +80,8 @@ use Rattle.cluster_contents.proofs.Signals.{HeldCase, held_case}
 use Rattle.cluster_contents.proofs.Decided.{running_if, TheChild, Itself, Another, forks_as, gone_view, asks_next, in_order, fork_number}
 use Rattle.cluster_endings.proofs.Finish.{Absent, Ended, now, stands, someone, Someone, child_view, finished_keeps, present_after}
 use Rattle.fork_laws.proofs.Lengths.{step_short}
-use Rattle.cluster_contents.proofs.Known.{job_given, moved_given, lists-append, lists-all_added, known_small, known_nobody, short_zero, short_one, short_nobody}
+use Rattle.courier_core.proofs.Keeping.{lists-either, all_added-from}
+use Rattle.cluster_contents.proofs.Known.{job_given, moved_given, known_small, known_nobody, short_zero, short_one, short_nobody}
 use Rattle.cluster_contents.proofs.Written.{legal_written}
 use Rattle.kernel_model.specs.Legal.{after_all}
 use Rattle.cluster_contents.specs.Histories.{with_entry}
@@ -354,7 +355,7 @@ module _ (world : World) (C : Cluster) (k : ℕ) where
               image = t.fits.image;
               job = t.fits.job;
               bag = record { holds = λ n. none_held n ∙ sym (g.none n); vprocs = tt; groups = tt };
-              wants = λ n e. remembers n (lists-all_added c.wants (names ++ held_names c.bag) n e);
+              wants = λ n e. remembers n (all_added-from c.wants (names ++ held_names c.bag) n e);
               below = λ w q e held less. absurd (empty_held q held);
             };
             standing = t.standing;
@@ -383,7 +384,7 @@ module _ (world : World) (C : Cluster) (k : ℕ) where
 
         remembers : (n : Name) → (lists c.wants n ≡ true) ⊎ (lists (names ++ held_names c.bag) n ≡ true) → Known world W (pid_of n)
         remembers n (inl e) = t.fits.wants n e
-        remembers n (inr e) = elim (lists-append names (held_names c.bag) n e) [ inl a ↦ known n a | inr b ↦ held_known n (held_listed n b) ]
+        remembers n (inr e) = elim (lists-either names (held_names c.bag) n e) [ inl a ↦ known n a | inr b ↦ held_known n (held_listed n b) ]
           where
             held_listed : (n : Name) → lists (held_names c.bag) n ≡ true → is_held c.bag n ≡ true
             held_listed n e = names_held c.bag t.fits.bag.vprocs t.fits.bag.groups n e
@@ -402,7 +403,7 @@ module _ (world : World) (C : Cluster) (k : ℕ) where
         at x e false f =
             let least = IsLeast-least_of x (lacking c.bag (wanted_or c names)) e in
             let there = lists-lacking c.bag (wanted_or c names) x least.among in
-            wanted_is x (elim (lists-append c.wants names x there.0) [ inl a ↦ t.fits.wants x a | inr b ↦ told names need.told x b ]) (waits_for c names t.fits.bag.vprocs t.fits.bag.groups x e f)
+            wanted_is x (elim (lists-either c.wants names x there.0) [ inl a ↦ t.fits.wants x a | inr b ↦ told names need.told x b ]) (waits_for c names t.fits.bag.vprocs t.fits.bag.groups x e f)
 
         go : (o : Option Name) → next_want c names ≡ o → StepIs m rows running history W (needed_least s c names o).state (needed_least s c names o).step
         go None e = absurd (never e)

@@ -1,5 +1,6 @@
 -- names that are asked for, held and known
 use Rattle.std.proofs.Common.{◌≡◌, inl, inr, ◌<◌, ℕ, Bool, true, false, cond, List, [], ◌∷◌, ◌++◌, ◌||◌, length, refl, sym, ap, ◌∙◌, subst, arith, Option, None, Some, All}
+use Rattle.std.proofs.lemmas.Bool.{or_left, or_right}
 use Rattle.std.proofs.lemmas.List.Elements.{All-weaker, All-head, All-tail}
 use Rattle.std.specs.Prelude.{is_some, map, not}
 use Rattle.ordered_table.specs.declared.Entry.{Entry as TableEntry}
@@ -26,6 +27,7 @@ use Rattle.unix_names.specs.Names.{is_before}
 use Rattle.std.specs.List.{list_any}
 use Rattle.courier_core.specs.Couriers.{asked as wanted_or, next_want, must_restart}
 use Rattle.courier_core.proofs.Order.{is_name-same, is_name-true, IsLeast-least_of, none-least}
+use Rattle.courier_core.proofs.Keeping.{lists-left}
 use Rattle.courier_core.proofs.Lists.{lists-lacking}
 use Rattle.process_table.specs.declared.Row.{Row}
 use Rattle.node_core.specs.Advance.{wanted}
@@ -90,21 +92,14 @@ none_before x (y ∷ ys) n none e = go (is_name y n) refl e (none_before x ys n 
     go true same e rest = ap (λ i. is_before i x) (sym (is_name-true y n same)) ∙ none.0
     go false same e rest = rest e
 
-pub or_left : (a b : Bool) → a ≡ true → (a || b) ≡ true
-or_left true b e = refl
-or_left false b e = cc
-
-pub or_right : (a b : Bool) → b ≡ true → (a || b) ≡ true
-or_right true b e = refl
-or_right false b e = e
-
-pub lists-left : (xs ys : List Name) (n : Name) → lists xs n ≡ true → lists (xs ++ ys) n ≡ true
-lists-left [] ys n e = cc
-lists-left (x ∷ xs) ys n e = go (is_name x n) e (lists-left xs ys n)
+-- a listed name that a test passes
+pub any_listed : (f : Name → Bool) (xs : List Name) → list_any f xs ≡ true → (n : Name) × (lists xs n ≡ true) × (f n ≡ true)
+any_listed f [] e = cc
+any_listed f (x ∷ xs) e = go (f x) refl e (any_listed f xs)
   where
-    go : (b : Bool) → (b || lists xs n) ≡ true → (lists xs n ≡ true → lists (xs ++ ys) n ≡ true) → (b || lists (xs ++ ys) n) ≡ true
-    go true e rest = refl
-    go false e rest = rest e
+    go : (b : Bool) → f x ≡ b → (b || list_any f xs) ≡ true → (list_any f xs ≡ true → (n : Name) × (lists xs n ≡ true) × (f n ≡ true)) → (n : Name) × (lists (x ∷ xs) n ≡ true) × (f n ≡ true)
+    go true is e rest = (x, or_left (is_name x x) (lists xs x) (is_name-same x), is)
+    go false is e rest = let r = rest e in (r.0, or_right (is_name x r.0) (lists xs r.0) r.1, r.2)
 
 pub listed_lacking : (bag : Bag) (xs : List Name) (n : Name) → lists xs n ≡ true → is_held bag n ≡ false → lists (lacking bag xs) n ≡ true
 listed_lacking bag [] n e none = cc

@@ -1,8 +1,7 @@
 -- a courier comes to an end: it leaves, waits or is done after finitely many questions
 use Rattle.std.proofs.Common.{◌≡◌, ◌⊎◌, inl, inr, ◌<◌, ◌≤◌, ◌==◌, ◌||◌, ℕ, zero, suc, Bool, true, false, cond, not, List, [], ◌∷◌, ◌++◌, length, refl, sym, ap, ◌∙◌, subst, arith, Option, None, Some}
 use Rattle.std.specs.Prelude.{filter, is_some}
-use Rattle.std.specs.List.{list_any}
-use Rattle.std.proofs.lemmas.Bool.{eq-eqb}
+use Rattle.std.proofs.lemmas.Bool.{eq-eqb, or_left}
 use Rattle.unix_names.specs.declared.Pid.{Pid}
 use Rattle.unix_names.specs.declared.Name.{Name}
 use Rattle.unix_names.specs.declared.Name.TheVariants as name
@@ -27,9 +26,10 @@ use Rattle.record_table.specs.declared.slot.Line.{Line}
 use Rattle.record_table.specs.Slots.{slot_at}
 use Rattle.courier_core.specs.declared.courier.Courier.{Courier}
 use Rattle.courier_core.specs.declared.courier.Message.TheVariants as message
-use Rattle.courier_core.specs.Wants.{is_name, lists, lacking, added, all_added}
+use Rattle.courier_core.specs.Wants.{is_name, lists, lacking, all_added}
 use Rattle.courier_core.specs.Couriers.{asked as wanted_or, next_want, must_restart}
-use Rattle.courier_core.proofs.Order.{is_name-true, is_name-same, IsLeast-least_of}
+use Rattle.courier_core.proofs.Order.{is_name-true, IsLeast-least_of}
+use Rattle.courier_core.proofs.Keeping.{lists-left, lists-right, lists-either, all_added-old, all_added-new}
 use Rattle.courier_core.proofs.Lists.{lists-lacking}
 use Rattle.unix_names.specs.Names.{is_before}
 use Rattle.process_table.specs.declared.Row.{Row}
@@ -44,12 +44,11 @@ use Rattle.cluster_contents.specs.Placement.{Places, Contents, Below}
 use Rattle.decide_law.specs.Needs.{size, IsOfCall, IsOfJob, IsOfRow, IsNamed, OfJob, OfRow, Itself as NamesItself}
 use Rattle.decide_law.specs.Vector.{IsAnswer, IsVector}
 use Rattle.cluster_moves.proofs.Returns.{held_more, is_held_some}
-use Rattle.cluster_contents.proofs.Known.{lists-append}
 use Rattle.kernel_model.specs.Legal.{after_all}
 use Rattle.unix_calls.specs.declared.Entry.{Entry as Line_}
 use Rattle.cluster_contents.proofs.NamesKept.{NamesKept}
 use Rattle.cluster_turns.proofs.Advances.{InTurn, StepIs, asks, stepped_is}
-use Rattle.cluster_turns.proofs.Asked.{told_at, names_held, or_left, or_right, lists-left}
+use Rattle.cluster_turns.proofs.Asked.{told_at, names_held, any_listed}
 
 -- ---- what is left of a list
 abbrev left : (Name → Bool) → List Name → ℕ
@@ -107,10 +106,6 @@ of_rows (r ∷ rs) = of_row r ++ of_rows rs
 all_names : List Row → Pid → Job → List Name
 all_names rows p job = both p.0 ++ of_job job ++ of_rows rows
 
-lists-right : (xs ys : List Name) (n : Name) → lists ys n ≡ true → lists (xs ++ ys) n ≡ true
-lists-right [] ys n e = e
-lists-right (x ∷ xs) ys n e = or_right (is_name x n) (lists (xs ++ ys) n) (lists-right xs ys n e)
-
 in_both : (n : Name) (m : ℕ) → pid_of n ≡ m → lists (both m) n ≡ true
 in_both (name.V q) m e = or_left (m == q.0) false (eq-eqb m q.0 (sym e))
 in_both (name.G q) m e = or_left (m == q.0) false (eq-eqb m q.0 (sym e))
@@ -160,27 +155,6 @@ in_all rows p job n (NamesItself e) = lists-left (both p.0) (of_job job ++ of_ro
 in_all rows p job n (OfJob e) = lists-right (both p.0) (of_job job ++ of_rows rows) n (lists-left (of_job job) (of_rows rows) n (in_job job n e))
 in_all rows p job n (OfRow q r there e) = lists-right (both p.0) (of_job job ++ of_rows rows) n (lists-right (of_job job) (of_rows rows) n (in_rows rows q r n there e))
 
--- ---- lists that grow
-all_added-old : (names more : List Name) (n : Name) → lists names n ≡ true → lists (all_added names more) n ≡ true
-all_added-old names [] n e = e
-all_added-old names (m ∷ ms) n e = all_added-old (added names m) ms n (go (lists names m))
-  where
-    go : (b : Bool) → lists (cond b names (names ++ m ∷ [])) n ≡ true
-    go true = e
-    go false = lists-left names (m ∷ []) n e
-
-all_added-new : (names more : List Name) (n : Name) → lists more n ≡ true → lists (all_added names more) n ≡ true
-all_added-new names [] n e = cc
-all_added-new names (m ∷ ms) n e = go (is_name m n) refl e (all_added-new (added names m) ms n)
-  where
-    there : (b : Bool) → lists names m ≡ b → is_name m n ≡ true → lists (cond b names (names ++ m ∷ [])) n ≡ true
-    there true h same = ap (lists names) (sym (is_name-true m n same)) ∙ h
-    there false h same = lists-right names (m ∷ []) n (or_left (is_name m n) false same)
-
-    go : (b : Bool) → is_name m n ≡ b → (b || lists ms n) ≡ true → (lists ms n ≡ true → lists (all_added (added names m) ms) n ≡ true) → lists (all_added (added names m) ms) n ≡ true
-    go true same e rest = all_added-old (added names m) ms n (there (lists names m) refl same)
-    go false same e rest = rest e
-
 -- ---- a courier that goes on is nearer to its end
 pub record Takes (U : List Name) (c c' : Courier) : Type 0 where
   wants : c'.wants ≡ c.wants
@@ -206,14 +180,6 @@ abbrev pub NearerBy : List Name → Courier → Step → Type 0
 NearerBy U c (Again c') = Nearer U c c'
 NearerBy U c (Over e) = Unit {0}
 
-any_some : (f : Name → Bool) (xs : List Name) → list_any f xs ≡ true → (n : Name) × (lists xs n ≡ true) × (f n ≡ true)
-any_some f [] e = cc
-any_some f (x ∷ xs) e = go (f x) refl e (any_some f xs)
-  where
-    go : (b : Bool) → f x ≡ b → (b || list_any f xs) ≡ true → (list_any f xs ≡ true → (n : Name) × (lists xs n ≡ true) × (f n ≡ true)) → (n : Name) × (lists (x ∷ xs) n ≡ true) × (f n ≡ true)
-    go true fx e rest = (x, or_left (is_name x x) (lists xs x) (is_name-same x), fx)
-    go false fx e rest = let r = rest e in (r.0, or_right (is_name x r.0) (lists xs r.0) r.1, r.2)
-
 module _ (world : World) (s : State) (c : Courier) (names U : List Name) (told : (n : Name) → lists names n ≡ true → lists U n ≡ true) (below : Below c) (held : (n : Name) → lists (held_names c.bag) n ≡ true → is_held c.bag n ≡ true) where
   wanted_near : (x : Name) → lists (c.wants ++ names) x ≡ true → is_held c.bag x ≡ false → NearerBy U c (wanted s c x).step
   wanted_near x among lacks = go (home x s.nodes == s.id)
@@ -230,7 +196,7 @@ module _ (world : World) (s : State) (c : Courier) (names U : List Name) (told :
           wants = refl;
           keeps = λ n e. held_more c.bag x h n e;
           one = x;
-          among = in_U (lists-append c.wants names x among);
+          among = in_U (lists-either c.wants names x among);
           lacked = lacks;
           has = is_held_some (with_held c.bag x h) x ∙ ap is_some (held_at-put c.bag x h);
         });
@@ -242,11 +208,11 @@ module _ (world : World) (s : State) (c : Courier) (names U : List Name) (told :
       go false = tt
 
   restarted_near : (x : Name) → lists (c.wants ++ names) x ≡ true → is_held c.bag x ≡ false → must_restart c x ≡ true → NearerBy U c (restarted s c names).step
-  restarted_near x among lacks again = record { pid = refl; job = refl; near = inr (by (lists c.wants x) refl (lists-append c.wants names x among)) }
+  restarted_near x among lacks again = record { pid = refl; job = refl; near = inr (by (lists c.wants x) refl (lists-either c.wants names x among)) }
     where
       by : (b : Bool) → lists c.wants x ≡ b → (lists c.wants x ≡ true) ⊎ (lists names x ≡ true) → Learns U c (record c { wants = all_added c.wants (names ++ held_names c.bag); bag = empty_bag })
       by true wanted t =
-          let m = any_some (λ n. is_before x n) (held_names c.bag) again in
+          let m = any_listed (λ n. is_before x n) (held_names c.bag) again in
           let f : true ≡ false = sym (below x m.0 wanted (held m.0 m.1) m.2) ∙ lacks in
           cc
       by false wanted (inl t) = let f : true ≡ false = sym t ∙ wanted in cc

@@ -34,7 +34,7 @@ use Rattle.node_state.specs.Wires.{posted}
 use Rattle.node_state.specs.Places.{poked_by, poked, rested, placed_by, placed}
 use Rattle.node_state.specs.Returns.{pid_named, called, told_if, laid_by, laid, given_back, all_given_back, nudged_by, nudged_here, nudged, all_nudged}
 use Rattle.node_state.specs.Endings.{with_born, settled_at, settled_in, child_placed}
-use Rattle.cluster_moves.proofs.Store.{name_cases}
+use Rattle.courier_core.proofs.Keeping.{name_cases}
 use Rattle.cluster_moves.proofs.Returns.{listed, Once}
 use Rattle.cluster_turns.specs.Inside.{HeldInside, GoesInside, IsInside}
 

@@ -1,19 +1,16 @@
 -- each turn of a node keeps what stands
-use Rattle.std.proofs.Common.{◌≡◌, ◌≢◌, ◌⊎◌, inl, inr, ◌<◌, ℕ, zero, suc, Bool, true, false, cond, ◌||◌, List, [], ◌∷◌, ◌++◌, refl, sym, ap, ◌∙◌, subst, Option, None, Some}
-use Rattle.std.specs.List.{list_any}
+use Rattle.std.proofs.Common.{◌≡◌, ◌≢◌, ◌⊎◌, inl, inr, ◌<◌, ℕ, zero, suc, Bool, true, false, cond, List, [], ◌∷◌, ◌++◌, refl, sym, ap, ◌∙◌, subst, Option, None, Some}
 use Rattle.std.specs.Option.{option_map}
 use Rattle.unix_names.specs.declared.NodeId.{NodeId}
 use Rattle.unix_names.specs.Names.{is_before}
 use Rattle.proc_image.specs.Images.{IsFit}
 use Rattle.record_bag.specs.Bags.{held_names}
-use Rattle.courier_core.specs.Wants.{is_name, lists}
 use Rattle.courier_core.specs.Couriers.{HoldsWhatIsBelow}
-use Rattle.courier_core.proofs.Order.{is_name-same}
 use Rattle.node_core.specs.Turns.{arriving}
 use Rattle.node_core.specs.Conditions.{AsksFit, FitsOn, CanSetOut}
 use Rattle.decide_law.specs.Vector.{Fits}
 use Rattle.cluster_turns.proofs.Advances.{me, asks, InTurn, Outcome_is, StepIs, stepped_is}
-use Rattle.cluster_turns.proofs.Asked.{names_held, or_left, or_right}
+use Rattle.cluster_turns.proofs.Asked.{names_held, any_listed}
 use Rattle.unix_names.specs.declared.Pid.{Pid}
 use Rattle.unix_names.specs.declared.Name.{Name}
 use Rattle.unix_names.specs.declared.Name.TheVariants as name
@@ -233,14 +230,6 @@ module _ (world : World) (valid : IsValid world) (ask : Ask) (vector : IsVector 
     image_fit W L s c t =
         let mine = me world C k valid ask vector inside names_kept m room rows running history table_is far_is W L s c t in
         record { script = mine.script; vars = mine.vars }
-
-    any_listed : (f : Name → Bool) (xs : List Name) → list_any f xs ≡ true → (n : Name) × (lists xs n ≡ true) × (f n ≡ true)
-    any_listed f [] e = cc
-    any_listed f (x ∷ xs) e = go (f x) refl e (any_listed f xs)
-      where
-        go : (b : Bool) → f x ≡ b → (b || list_any f xs) ≡ true → (list_any f xs ≡ true → (n : Name) × (lists xs n ≡ true) × (f n ≡ true)) → (n : Name) × (lists (x ∷ xs) n ≡ true) × (f n ≡ true)
-        go true is e rest = (x, or_left (is_name x x) (lists xs x) (is_name-same x), is)
-        go false is e rest = let r = rest e in (r.0, or_right (is_name x r.0) (lists xs r.0) r.1, r.2)
 
     holds_below : (W : Contents) (L : Places) (c : Courier) → CourierFits world W L c → HoldsWhatIsBelow c
     holds_below W L c f n wanted above =

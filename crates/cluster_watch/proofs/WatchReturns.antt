@@ -24,8 +24,7 @@ use Rattle.record_table.specs.Slots.{slot_at, with_slot}
 use Rattle.record_table.proofs.SlotLaws.{slot_at-put_home, slot_at-put_other, slot_at-put_line, slot_at-nobody}
 use Rattle.courier_core.specs.declared.courier.Courier.{Courier}
 use Rattle.courier_core.specs.declared.courier.Message.TheVariants as message
-use Rattle.courier_core.specs.Wants.{is_name}
-use Rattle.courier_core.proofs.Order.{is_name-same, is_name-true}
+use Rattle.courier_core.proofs.Order.{is_name-same}
 use Rattle.node_state.specs.declared.State.{State}
 use Rattle.node_state.specs.declared.Waiting.TheVariants as waiting
 use Rattle.node_state.specs.Returns.{pid_named, called, told_if, laid_by, laid, given_back, all_given_back, nudged_here, nudged, all_nudged}
@@ -33,13 +32,14 @@ use Rattle.node_state.specs.Wires.{posted}
 use Rattle.node_state.specs.Phases.{woken}
 use Rattle.node_state.specs.Places.{rested, placed_by, placed}
 use Rattle.cluster_state.specs.Cluster.{Cluster}
-use Rattle.cluster_contents.specs.Placement.{Where, Ready, Parked, InLine, Wire, In, Hand, AtHome, Proc, Rec, Places, moved, Contents, CourierItem, ParkedItem, RecordItem, carried_by, carried, BagFits}
+use Rattle.cluster_contents.specs.Placement.{Where, Ready, Parked, InLine, Wire, In, Hand, AtHome, Proc, Rec, Places, moved, Contents, CourierItem, ParkedItem, RecordItem, carried, BagFits}
 use Rattle.cluster_moves.specs.Benches.{stored, slots_at}
 use Rattle.cluster_watch.specs.Watched.{IsComing, Leaves, state_at, slot_in, IsTold, Nudged as TellsHome, Marked as TellsSlot, Poked as TellsPlace, IsResting, IfRests, ImageWatched, WatchesAt}
-use Rattle.cluster_moves.proofs.Things.{moved-same, moved-other}
-use Rattle.cluster_moves.proofs.Store.{name_cases, unchanged, written, slot_here, slot_others, write_same, line_changes, parked_adds, parked_put}
+use Rattle.cluster_moves.proofs.Things.{moved-same}
+use Rattle.courier_core.proofs.Keeping.{name_cases}
+use Rattle.cluster_moves.proofs.Store.{unchanged, written, slot_here, slot_others, write_same, line_changes, parked_adds, parked_put}
 use Rattle.cluster_moves.proofs.Moves.{hand_out, Bench, not_parked, rest, drop}
-use Rattle.cluster_moves.proofs.Returns.{listed, listed_all, Once, once_all, carried_some, given_keeps, nudged_keeps}
+use Rattle.cluster_moves.proofs.Returns.{listed, listed_rest, listed_all, Once, once_all, carried_some, given_keeps, nudged_keeps}
 use Rattle.cluster_watch.proofs.Watching.{told_on, news_kept, slots_kept, marks_kept, goes_last, Fine, Marks, fine_more, more_same, more_written, own_parked, own_marks, watch_more, watch_on, watch_less, watch_put, watch_take, watch_still}
 use Rattle.cluster_watch.proofs.WatchMoves.{AreAlive, OrIs, watch_queue, watch_post, watch_news, called_any, called_watch, nudged_here_watch}
 
@@ -177,23 +177,8 @@ module _ (world : World) (C : Cluster) (k : ℕ) where
       let b1 = drop world C k W L s p m b hand mine.0 in
       let a = given_keeps world C k W L1 s m e.1 b1 (moved-same L (Rec m) Hand) mine.1 in
       let hand2 : a.places (Proc p) ≡ Hand = a.keeps.hand p tt hand in
-      all_given_watch W a.places p (given_back s m e.1) es P a.bench hand2 (λ n. left_at n a.places (a.keeps.bags p tt (inl hand) n (W.what n)) (name_cases n m)) once.1 alive
+      all_given_watch W a.places p (given_back s m e.1) es P a.bench hand2 (λ n. listed_rest W L a.places p e es has once n (a.keeps.bags p tt (inl hand) n (W.what n))) once.1 alive
       (given_watch W L1 s m e.1 P b1 (moved-same L (Rec m) Hand) mine.1 alive w)
-    where
-      left_at : (n : Name) (M : Places) → carried W M p n ≡ carried W (moved L (Rec e.0) Hand) p n → (n ≡ e.0) ⊎ (n ≢ e.0) → listed es n ≡ carried W M p n
-      left_at n M kept (inl same) =
-          ap (listed es) same ∙ once.0
-          ∙ sym (kept ∙ ap (λ x. carried W (moved L (Rec e.0) Hand) p x) same ∙ ap (λ o. carried_by p o (W.what e.0)) (moved-same L (Rec e.0) Hand))
-      left_at n M kept (inr ne) =
-          ap (λ b. cond b (Some e.1) (listed es n)) (sym (other_name e.0 n (λ x. ne (sym x)))) ∙ has n
-          ∙ sym (kept ∙ ap (λ o. carried_by p o (W.what n)) (moved-other L (Rec e.0) Hand (Rec n) (λ x. let same : n ≡ e.0 = cc in ne same)))
-        where
-          other_name : (a b : Name) → a ≢ b → is_name a b ≡ false
-          other_name a b ne = go (is_name a b) refl
-            where
-              go : (t : Bool) → is_name a b ≡ t → t ≡ false
-              go true t = absurd (ne (is_name-true a b t))
-              go false t = refl
 
   pub bag_watch : (W : Contents) (L : Places) (p : Pid) (s : State) (bag : Bag) (P : Pid → Type 0) → Bench world C k W L s → L (Proc p) ≡ Hand → BagFits W L p bag → AreAlive W → WatchesAt world C k W P s → WatchesAt world C k W P (all_given_back s (all_held bag))
   bag_watch W L p s bag P b hand f = all_given_watch W L p s (all_held bag) P b hand (λ n. listed_all bag f.vprocs f.groups n ∙ f.holds n) (once_all bag.vprocs bag.groups f.vprocs f.groups)

@@ -25,7 +25,7 @@ use Rattle.cluster_contents.specs.Placement.{Where, Ready, Parked, InLine, Wire,
 use Rattle.cluster_moves.specs.Benches.{items_at, slots_at}
 use Rattle.cluster_watch.specs.Watched.{News, GoesTo, IsComing, Flies, Leaves, state_at, slot_in, marked_in, IsTold, Nudged, Marked, Poked, IsFine, IsAt, IfRests, ItemWatched, AllWatched, WatchesAt}
 use Rattle.cluster_moves.proofs.Things.{AddsAt, Adds}
-use Rattle.cluster_moves.proofs.Store.{name_cases}
+use Rattle.courier_core.proofs.Keeping.{name_cases}
 use Rattle.cluster_moves.proofs.Moves.{Bench}
 
 -- ---- lists of items

@@ -1,5 +1,5 @@
 -- a statement that is read makes as much work as its line says, and the scripts that are read are those of the part
-use Rattle.std.proofs.Common.{◌≡◌, inl, inr, ℕ, zero, suc, ◌+◌, Bool, true, false, cond, List, [], ◌∷◌, drop, refl, sym, ap, ◌∙◌, subst, arith, Some, Ok, Err}
+use Rattle.std.proofs.Common.{◌≡◌, inl, inr, ℕ, zero, suc, ◌+◌, Bool, true, false, cond, List, [], ◌∷◌, refl, sym, ap, ◌∙◌, subst, arith, Some, Ok, Err}
 use Rattle.std.specs.Prelude.{codes, slice_get, map, is_some, nat_lt}
 use Rattle.std.specs.Str.{is_utf8}
 use Rattle.std.proofs.lemmas.Bool.{eqb-true}
@@ -8,18 +8,18 @@ use Rattle.unix_calls.specs.declared.world.Statement.{Statement}
 use Rattle.unix_calls.specs.declared.world.Statement.TheVariants as statement
 use Rattle.script_words.specs.declared.faults.Kind.{Kind}
 use Rattle.script_words.specs.declared.faults.Kind.TheVariants.{NotUtf8, LaterScript}
-use Rattle.script_words.specs.Words.{Word, Row, is_same, word_at, is_skipped, number, signal_number, node}
-use Rattle.script_reader.specs.declared.names.Names.{Names}
+use Rattle.script_words.specs.Words.{Word, Row, is_same, word_at, is_skipped}
 use Rattle.script_reader.specs.declared.places.Place.{Place}
 use Rattle.script_words.specs.declared.table.Verb.{Verb}
 use Rattle.script_words.specs.declared.table.Verb.TheVariants as verb
 use Rattle.script_reader.specs.declared.lines.Item.{Item}
 use Rattle.script_words.specs.Table.{verb_word, verb_named}
-use Rattle.script_reader.specs.Statements.{own_variable, script, earlier_script, process, target, wanted_group, selector, changes, act, signals, site, fork_statement, wait_statement, kill_statement, setpgid_statement, action_statement, mask_statement, migrate_statement, exec_statement, exit_statement, getpgid_statement, getsid_statement, statement_of}
+use Rattle.script_reader.specs.Statements.{own_variable, script, earlier_script, site, fork_statement, exec_statement, statement_of}
 use Rattle.script_reader.specs.Lines.{read_row, read_line, place_after}
 use Rattle.script_reader.specs.Files.{begins_with, Told, first_place, said, with_said, body, scripts_of}
-use Rattle.script_laws.proofs.Results.{Gives, next, gives, ended_here, anything, next_ok, then_ok, ended_ok}
+use Rattle.script_laws.proofs.Results.{next_ok, then_ok, ended_ok}
 use Rattle.script_laws.proofs.Words.{begins_so}
+use Rattle.script_laws.proofs.Verbs.{verb_of, verb_said}
 use Rattle.script_laws.proofs.Lines.{Step, silent, opens, begins, ends, says, starts, step}
 use Rattle.script_laws.proofs.Starts.{script_there}
 use Rattle.script_laws.proofs.Parts.{names_of, told_of}
@@ -31,69 +31,32 @@ use Rattle.fault_laws.proofs.Own.{own_clean, own_fault}
 use Rattle.fault_laws.proofs.Weights.{one, charge, ChargesSo, so_weighs, StepsSo}
 use Rattle.fault_laws.proofs.Firsts.{script_first}
 
--- ---- statements of no script
-abbrev IsPlain : Statement → Type 0
-IsPlain s = charge s ≡ one
-
-module _ (names : Names) (place : Place) (row : Row) where
-  plain_exit : Gives (exit_statement row) IsPlain
-  unfolding exit_statement
-  plain_exit = next (number (word_at row 1)) _ _ IsPlain (anything (number (word_at row 1))) (λ n _. ended_here row 2 (statement.Exit n) IsPlain refl)
-
-  plain_getpgid : Gives (getpgid_statement names.variables row) IsPlain
-  unfolding getpgid_statement
-  plain_getpgid = next (process names.variables (word_at row 1)) _ _ IsPlain (anything (process names.variables (word_at row 1))) (λ arg _. ended_here row 2 (statement.Getpgid arg) IsPlain refl)
-
-  plain_getsid : Gives (getsid_statement names.variables row) IsPlain
-  unfolding getsid_statement
-  plain_getsid = next (process names.variables (word_at row 1)) _ _ IsPlain (anything (process names.variables (word_at row 1))) (λ arg _. ended_here row 2 (statement.Getsid arg) IsPlain refl)
-
-  plain_wait : (sleeps : Bool) → Gives (wait_statement names.variables sleeps row) IsPlain
-  unfolding wait_statement
-  plain_wait sleeps =
-      next (selector names.variables (word_at row 1)) _ _ IsPlain (anything (selector names.variables (word_at row 1))) (λ whom _.
-      next (changes row) _ _ IsPlain (anything (changes row)) (λ asked _.
-      gives (statement.Wait sleeps whom.0 whom.1 whom.2 asked.0 asked.1) IsPlain refl))
-
-  plain_kill : Gives (kill_statement names.variables row) IsPlain
-  unfolding kill_statement
-  plain_kill =
-      next (target names.variables (word_at row 1)) _ _ IsPlain (anything (target names.variables (word_at row 1))) (λ whom _.
-      next (signal_number (word_at row 2)) _ _ IsPlain (anything (signal_number (word_at row 2))) (λ sig _.
-      ended_here row 3 (statement.Kill whom.0 whom.1 sig) IsPlain refl))
-
-  plain_setpgid : Gives (setpgid_statement names.variables row) IsPlain
-  unfolding setpgid_statement
-  plain_setpgid =
-      next (process names.variables (word_at row 1)) _ _ IsPlain (anything (process names.variables (word_at row 1))) (λ pid _.
-      next (wanted_group names.variables (word_at row 2)) _ _ IsPlain (anything (wanted_group names.variables (word_at row 2))) (λ wanted _.
-      ended_here row 3 (statement.Setpgid pid wanted.0 wanted.1) IsPlain refl))
-
-  plain_action : Gives (action_statement row) IsPlain
-  unfolding action_statement
-  plain_action =
-      next (signal_number (word_at row 1)) _ _ IsPlain (anything (signal_number (word_at row 1))) (λ sig _.
-      next (act (word_at row 2)) _ _ IsPlain (anything (act (word_at row 2))) (λ action _.
-      ended_here row 3 (statement.Action sig action) IsPlain refl))
-
-  plain_mask : Gives (mask_statement row) IsPlain
-  unfolding mask_statement
-  plain_mask = next (signals 0 (drop 1 row)) _ _ IsPlain (anything (signals 0 (drop 1 row))) (λ set _. gives (statement.Mask set) IsPlain refl)
-
-  plain_migrate : Gives (migrate_statement place.nodes row) IsPlain
-  unfolding migrate_statement
-  plain_migrate = next (node place.nodes (word_at row 1)) _ _ IsPlain (anything (node place.nodes (word_at row 1))) (λ n _. ended_here row 2 (statement.Migrate (record { 0 = n })) IsPlain refl)
-
 -- ---- what a line weighs
 verb_is : (v : Verb) → is_some (verb_named (verb_word v)) ≡ true
 unfolding verb_named is_same
 verb_is verb.Getpid = refl
 verb_is _ = refl
 
--- a verb other than fork and exec
-plain_weighs : (rows : List Row) (row : Row) (v : Verb) (s : Statement) → word_at row 0 ≡ verb_word v → is_same (verb_word v) (codes "fork") ≡ false → is_same (verb_word v) (codes "exec") ≡ false → IsPlain s → Weighs rows row s
-plain_weighs rows row v s w f x p =
-    so_weighs rows row s (subst (ChargesSo rows row) (sym p) (
+fork_word : is_same (verb_word verb.Fork) (codes "fork") ≡ true
+unfolding is_same
+fork_word = refl
+
+exec_word : is_same (verb_word verb.Exec) (codes "exec") ≡ true
+unfolding is_same
+exec_word = refl
+
+-- a statement other than a fork and an exec
+no_script : (s : Statement) → is_same (verb_word (verb_of s)) (codes "fork") ≡ false → is_same (verb_word (verb_of s)) (codes "exec") ≡ false → charge s ≡ one
+no_script (statement.Fork var script at) f x = let is = fork_word in cc
+no_script (statement.Exec script) f x = let is = exec_word in cc
+no_script _ f x = refl
+
+-- a verb other than these
+plain_weighs : (lines : List (List ℕ)) (place : Place) (row : Row) (v : Verb) (s : Statement) → statement_of (names_of lines) place v row ≡ Ok s → word_at row 0 ≡ verb_word v → is_same (verb_word v) (codes "fork") ≡ false → is_same (verb_word v) (codes "exec") ≡ false → Weighs (map words lines) row s
+plain_weighs lines place row v s e w f x =
+    let is = (verb_said (names_of lines) place row v).fact s e in
+    let other = no_script s (ap (λ (u : Verb). is_same (verb_word u) (codes "fork")) is ∙ f) (ap (λ (u : Verb). is_same (verb_word u) (codes "exec")) is ∙ x) in
+    so_weighs (map words lines) row s (subst (ChargesSo (map words lines) row) (sym other) (
       ap (λ (z : Word). is_some (verb_named z)) w ∙ verb_is v,
       begins_so row (codes "fork") (verb_word v) false w f,
       begins_so row (codes "exec") (verb_word v) false w x,
@@ -108,14 +71,6 @@ earlier_first lines place word n e =
     let is : s.0 ≡ n = cc in
     subst (IsFirst (script_names (map words lines)) word) is (script_first lines word s.0 (script_there (names_of lines).scripts word s.0 s.1))
 
-fork_begins : (row : Row) → word_at row 0 ≡ codes "fork" → begins_with (codes "fork") row ≡ true
-unfolding is_same
-fork_begins row w = begins_so row (codes "fork") (codes "fork") true w refl
-
-exec_begins : (row : Row) → word_at row 0 ≡ codes "exec" → begins_with (codes "exec") row ≡ true
-unfolding is_same
-exec_begins row w = begins_so row (codes "exec") (codes "exec") true w refl
-
 fork_weighs : (lines : List (List ℕ)) (place : Place) (row : Row) (s : Statement) → fork_statement (names_of lines) place row ≡ Ok s → word_at row 0 ≡ codes "fork" → Weighs (map words lines) row s
 unfolding fork_statement
 fork_weighs lines place row s e w =
@@ -123,33 +78,20 @@ fork_weighs lines place row s e w =
     let b = next_ok (earlier_script (names_of lines) place (word_at row 2)) _ s a.2 in
     let c = next_ok (site place.nodes row) _ s b.2 in
     let is : statement.Fork a.0 b.0 c.0 ≡ s = cc in
-    subst (Weighs (map words lines) row) is (fork_begins row w, earlier_first lines place (word_at row 2) b.0 b.1)
+    subst (Weighs (map words lines) row) is (begins_so row (codes "fork") (codes "fork") true w fork_word, earlier_first lines place (word_at row 2) b.0 b.1)
 
 exec_weighs : (lines : List (List ℕ)) (place : Place) (row : Row) (s : Statement) → exec_statement (names_of lines) place row ≡ Ok s → word_at row 0 ≡ codes "exec" → Weighs (map words lines) row s
 unfolding exec_statement
 exec_weighs lines place row s e w =
     let b = next_ok (earlier_script (names_of lines) place (word_at row 1)) _ s e in
     let is : statement.Exec b.0 ≡ s = (ended_ok row 2 (statement.Exec b.0) s b.2).1 in
-    subst (Weighs (map words lines) row) is (exec_begins row w, earlier_first lines place (word_at row 1) b.0 b.1)
+    subst (Weighs (map words lines) row) is (begins_so row (codes "exec") (codes "exec") true w exec_word, earlier_first lines place (word_at row 1) b.0 b.1)
 
 said_weighs : (lines : List (List ℕ)) (place : Place) (row : Row) (v : Verb) (s : Statement) → statement_of (names_of lines) place v row ≡ Ok s → word_at row 0 ≡ verb_word v → Weighs (map words lines) row s
 unfolding statement_of is_same
 said_weighs lines place row verb.Fork s e w = fork_weighs lines place row s e w
 said_weighs lines place row verb.Exec s e w = exec_weighs lines place row s e w
-said_weighs lines place row verb.Getpid s e w = plain_weighs (map words lines) row verb.Getpid s w refl refl ((ended_here row 1 statement.Getpid IsPlain refl).fact s e)
-said_weighs lines place row verb.Getppid s e w = plain_weighs (map words lines) row verb.Getppid s w refl refl ((ended_here row 1 statement.Getppid IsPlain refl).fact s e)
-said_weighs lines place row verb.Setsid s e w = plain_weighs (map words lines) row verb.Setsid s w refl refl ((ended_here row 1 statement.Setsid IsPlain refl).fact s e)
-said_weighs lines place row verb.Pending s e w = plain_weighs (map words lines) row verb.Pending s w refl refl ((ended_here row 1 statement.Pending IsPlain refl).fact s e)
-said_weighs lines place row verb.Getpgid s e w = plain_weighs (map words lines) row verb.Getpgid s w refl refl ((plain_getpgid (names_of lines) place row).fact s e)
-said_weighs lines place row verb.Getsid s e w = plain_weighs (map words lines) row verb.Getsid s w refl refl ((plain_getsid (names_of lines) place row).fact s e)
-said_weighs lines place row verb.Exit s e w = plain_weighs (map words lines) row verb.Exit s w refl refl ((plain_exit (names_of lines) place row).fact s e)
-said_weighs lines place row verb.Wait s e w = plain_weighs (map words lines) row verb.Wait s w refl refl ((plain_wait (names_of lines) place row true).fact s e)
-said_weighs lines place row verb.Poll s e w = plain_weighs (map words lines) row verb.Poll s w refl refl ((plain_wait (names_of lines) place row false).fact s e)
-said_weighs lines place row verb.Kill s e w = plain_weighs (map words lines) row verb.Kill s w refl refl ((plain_kill (names_of lines) place row).fact s e)
-said_weighs lines place row verb.Setpgid s e w = plain_weighs (map words lines) row verb.Setpgid s w refl refl ((plain_setpgid (names_of lines) place row).fact s e)
-said_weighs lines place row verb.Action s e w = plain_weighs (map words lines) row verb.Action s w refl refl ((plain_action (names_of lines) place row).fact s e)
-said_weighs lines place row verb.Mask s e w = plain_weighs (map words lines) row verb.Mask s w refl refl ((plain_mask (names_of lines) place row).fact s e)
-said_weighs lines place row verb.Migrate s e w = plain_weighs (map words lines) row verb.Migrate s w refl refl ((plain_migrate (names_of lines) place row).fact s e)
+said_weighs lines place row v s e w = plain_weighs lines place row v s e w refl refl
 
 -- ---- what a line adds
 hash_statement : (bs : List ℕ) → is_some (verb_named (35 ∷ bs)) ≡ false

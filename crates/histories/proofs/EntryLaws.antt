@@ -1,23 +1,21 @@
 -- what is written of an entry seems to say it
-use Rattle.std.proofs.Common.{◌≡◌, ℕ, ◌^◌, ◌%◌, ◌<◌, nat_lt, ℤ, pos, negsuc, Bool, true, false, cond, not, ◌==◌, ◌&&◌, List, [], ◌∷◌, ◌++◌, length, take, drop, map, filter, Some, None, refl, ap, sym, ◌∙◌, arith, append-nil, codes}
+use Rattle.std.proofs.Common.{◌≡◌, ℕ, ◌^◌, ◌%◌, ◌<◌, nat_lt, ℤ, Bool, true, false, cond, ◌==◌, List, [], ◌∷◌, ◌++◌, length, take, drop, map, filter, Some, None, refl, ap, sym, ◌∙◌, arith, append-nil, codes}
 use Rattle.std.specs.Prelude.{take_while}
 use Rattle.std.specs.List.{list_all}
 use Rattle.std.specs.Fmt.{decimal, signed_decimal}
-use Rattle.std.proofs.lemmas.Bool.{ne_eqb}
+use Rattle.std.proofs.lemmas.Bool.{and_parts, ne_eqb}
 use Rattle.std.proofs.lemmas.List.Sums.{take_while-cons}
 use Rattle.std.proofs.Math.Seq.{take-append_seam, take-length}
 use Rattle.script_words.specs.Words.{Word, Row, is_same, word_at, is_number}
 use Rattle.unix_names.specs.declared.Signal.{Signal}
 use Rattle.unix_names.specs.declared.Signal.TheVariants.{Hup, Int, Quit, Abrt, Kill, Usr1, Usr2, Pipe, Alrm, Term, Chld, Cont, Stop, Tstp, Ttin, Ttou, Urg}
-use Rattle.unix_names.specs.declared.Act.{Act}
-use Rattle.unix_names.specs.declared.Act.TheVariants as acts
 use Rattle.unix_names.specs.declared.Errno.{Errno}
 use Rattle.unix_names.specs.declared.Errno.TheVariants.{EPERM, ESRCH, EACCES, EINVAL, ECHILD, EAGAIN}
 use Rattle.unix_names.specs.declared.WaitStatus.{WaitStatus}
 use Rattle.unix_names.specs.declared.WaitStatus.TheVariants as status
-use Rattle.unix_names.specs.Signals.{word_of, signal_of, all_signals}
+use Rattle.unix_names.specs.Signals.{word_of, all_signals}
 use Rattle.unix_names.specs.Sets.{has}
-use Rattle.unix_calls.specs.Calls.{IsName, HasNames, EntryHasNames}
+use Rattle.unix_calls.specs.Calls.{HasNames, EntryHasNames}
 use Rattle.unix_calls.specs.declared.Call.{Call}
 use Rattle.unix_calls.specs.declared.Call.TheVariants as calls
 use Rattle.unix_calls.specs.declared.Reply.{Reply}
@@ -26,107 +24,20 @@ use Rattle.unix_calls.specs.declared.Event.{Event}
 use Rattle.unix_calls.specs.declared.Event.TheVariants as events
 use Rattle.unix_calls.specs.declared.Entry.{Entry}
 use Rattle.unix_calls.specs.declared.Entry.TheVariants.{Called, Happened}
-use Rattle.script_words.specs.Table.{errno_named, errno_word, act_word, change_words, changes_in, verb_named}
-use Rattle.script_words.specs.Writing.{word_or_number, signal_word}
+use Rattle.script_words.specs.Table.{errno_named, errno_word, change_words, changes_in, verb_named}
 use Rattle.script_words.proofs.Spelled.{act_named-act_word}
 use Rattle.histories.specs.History.{set_words, call_words, status_words, reply_words, event_words}
 use Rattle.histories.specs.MethodLoose.{number_in, signed_in, set_in, status_in, worded_reply_in, reply_in, wait_in, call_of, call_in, words_before, event_in, said, entry_in}
 use Rattle.histories.specs.Reading.{entry_words, CallFits, StatusFits, ReplyFits, Fits}
 use Rattle.std.proofs.Math.Seq.{drop-append_seam}
-use Rattle.histories.proofs.LooseLaws.{number-decimal, number-read, number-other, signed-read, signal_number-read, signal-read, set-read, word-not_number, small-pos}
+use Rattle.histories.proofs.PlainLaws.{is_inner, inner-call, inner-event}
+use Rattle.histories.proofs.LooseLaws.{number-decimal, number-read, signed-read, signal_number-read, signal-read, set-read, word-not_number}
 
 -- ---- the words of a call, up to the equals sign
-abbrev pub is_inner : Word → Bool
-is_inner word = not (is_same word (codes "="))
-
-equals-not_number : is_number (codes "=") ≡ false
-unfolding is_number
-equals-not_number = refl
-
-inner-number : (n : ℕ) → n < 2 ^ 32 → is_inner (decimal n) ≡ true
-inner-number n h = ap not (number-other (decimal n) (codes "=") (number-decimal n h) equals-not_number)
-
-inner-word : (s : Signal) → is_inner (word_of s) ≡ true
-unfolding is_same
-inner-word Hup = refl
-inner-word Int = refl
-inner-word Quit = refl
-inner-word Abrt = refl
-inner-word Kill = refl
-inner-word Usr1 = refl
-inner-word Usr2 = refl
-inner-word Pipe = refl
-inner-word Alrm = refl
-inner-word Term = refl
-inner-word Chld = refl
-inner-word Cont = refl
-inner-word Stop = refl
-inner-word Tstp = refl
-inner-word Ttin = refl
-inner-word Ttou = refl
-inner-word Urg = refl
-
-inner-signed : (z : ℤ) → IsName z → is_inner (signed_decimal z) ≡ true
-unfolding is_same
-inner-signed (pos n) h = inner-number n (small-pos n h)
-inner-signed (negsuc n) h = refl
-
-inner-signal : (n : ℕ) → n < 2 ^ 32 → is_inner (signal_word n) ≡ true
-inner-signal n h = elim (signal_of n) as (λ o. is_inner (word_or_number n o) ≡ true) [ None ↦ inner-number n h | Some s ↦ inner-word s ]
-
-inner-words : (ss : List Signal) → list_all is_inner (map word_of ss) ≡ true
-inner-words [] = refl
-inner-words (s ∷ ss) = rw (inner-word s) (inner-words ss)
-
-inner-dash : list_all is_inner (codes "-" ∷ []) ≡ true
-unfolding is_same
-inner-dash = refl
-
-inner-set : (set : ℕ) → list_all is_inner (set_words set) ≡ true
-inner-set set = elim (set == 0) as (λ b. list_all is_inner (cond b (codes "-" ∷ []) (map word_of (filter (has set) all_signals))) ≡ true) [
-  | true ↦ inner-dash
-  | false ↦ inner-words (filter (has set) all_signals)
-]
-
-inner-asked : (a b : Bool) → list_all is_inner (change_words a b) ≡ true
-unfolding is_same
-inner-asked false false = refl
-inner-asked true false = refl
-inner-asked false true = refl
-inner-asked true true = refl
-
-inner-act : (a : Act) → list_all is_inner (act_word a ∷ []) ≡ true
-unfolding is_same
-inner-act acts.Default = refl
-inner-act acts.Ignore = refl
-inner-act acts.Catch = refl
-
-inner-call : (c : Call) → CallFits c → HasNames c → list_all is_inner (call_words c) ≡ true
-unfolding is_same
-inner-call calls.Getpid fit names = refl
-inner-call calls.Getppid fit names = refl
-inner-call (calls.Getpgid t) fit names = rw (inner-number t fit) refl
-inner-call (calls.Getsid t) fit names = rw (inner-number t fit) refl
-inner-call calls.Fork fit names = refl
-inner-call calls.Exec fit names = refl
-inner-call (calls.Exit n) fit names = rw (inner-number n fit) refl
-inner-call (calls.Waitpid sel a b) fit names = rw (inner-signed sel names) (inner-asked a b)
-inner-call (calls.Kill target sig) fit names = rw (inner-signed target names, inner-signal sig fit) refl
-inner-call (calls.Setpgid pid pgid) fit names = rw (inner-number pid fit, inner-signed pgid names) refl
-inner-call calls.Setsid fit names = refl
-inner-call (calls.Action sig a) fit names = rw (inner-signal sig fit) (inner-act a)
-inner-call (calls.Mask set) fit names = inner-set set
-inner-call calls.Pending fit names = refl
-inner-call calls.Migrate fit names = refl
-
-both : (a b : Bool) → (a && b) ≡ true → (a ≡ true) × (b ≡ true)
-both true b h = (refl, h)
-both false b h = absurd (cc)
-
 front-kept : (xs ys : List Word) → list_all is_inner xs ≡ true → take_while is_inner (xs ++ ys) ≡ xs ++ take_while is_inner ys
 front-kept [] ys h = refl
 front-kept (x ∷ xs) ys h =
-    let parts = both (is_inner x) (list_all is_inner xs) h in
+    let parts = and_parts (is_inner x) (list_all is_inner xs) h in
     take_while-cons is_inner x (xs ++ ys) ∙ ap (λ b. cond b (x ∷ take_while is_inner (xs ++ ys)) []) parts.0
     ∙ ap (λ (ws : List Word). x ∷ ws) (front-kept xs ys parts.1)
 
@@ -144,9 +55,9 @@ reply-front (replies.Refused e) = equals-outer (errno_word e ∷ [])
 reply-front replies.NoReply = refl
 
 -- the equals sign stands behind the call
-call-front : (c : Call) (r : Reply) → CallFits c → HasNames c → words_before (call_words c ++ reply_words r) ≡ length (call_words c)
+call-front : (c : Call) (r : Reply) → words_before (call_words c ++ reply_words r) ≡ length (call_words c)
 unfolding words_before
-call-front c r fit names = ap length (front-kept (call_words c) (reply_words r) (inner-call c fit names) ∙ ap (λ (ws : List Word). call_words c ++ ws) (reply-front r) ∙ append-nil (call_words c))
+call-front c r = ap length (front-kept (call_words c) (reply_words r) (inner-call c) ∙ ap (λ (ws : List Word). call_words c ++ ws) (reply-front r) ∙ append-nil (call_words c))
 
 -- words without an equals sign are all before it
 all-front : (ws : List Word) → list_all is_inner ws ≡ true → take (words_before ws) ws ≡ ws
@@ -323,15 +234,6 @@ event-unsaid (events.EndedBy s) = refl
 event-unsaid events.Continued = refl
 event-unsaid events.Moved = refl
 
-inner-event : (e : Event) → list_all is_inner (event_words e) ≡ true
-unfolding is_same
-inner-event (events.Caught s) = rw (inner-word s) refl
-inner-event (events.Discarded s) = rw (inner-word s) refl
-inner-event (events.StoppedBy s) = rw (inner-word s) refl
-inner-event (events.EndedBy s) = rw (inner-word s) refl
-inner-event events.Continued = refl
-inner-event events.Moved = refl
-
 first-word : (p : Word) (ws : List Word) → word_at (p ∷ ws) 0 ≡ p
 unfolding word_at
 first-word p ws = refl
@@ -341,7 +243,7 @@ pub entry-read : (e : Entry) → Fits e → EntryHasNames e → entry_in (entry_
 unfolding entry_in
 entry-read (Called caller c r) fit names =
     let rest : List Word = call_words c ++ reply_words r in
-    let front : words_before rest ≡ length (call_words c) = call-front c r fit.1 names in
+    let front : words_before rest ≡ length (call_words c) = call-front c r in
     let pid : ℕ = number_in (word_at (decimal caller.0 ∷ rest) 0) in
     ap (λ n. said (call_in (take n rest)) pid rest) front
     ∙ ap (λ (ws : List Word). said (call_in ws) pid rest) (take-append_seam (call_words c) (reply_words r))

@@ -1,43 +1,23 @@
 -- the numbers that words seem to say fit their types
-use Rattle.std.proofs.Common.{inl, inr, ◌≡◌, ℕ, zero, suc, neg_ℤ, lit<, ◌^◌, ◌%◌, ◌<◌, nat_lt, ℤ, pos, negsuc, Bool, true, false, cond, ◌==◌, List, [], ◌∷◌, length, take, drop, map, filter, fold, Option, Some, None, refl, arith, codes}
-use Rattle.std.specs.Fmt.{decimal, signed_decimal}
+use Rattle.std.proofs.Common.{inl, inr, ℕ, zero, suc, neg_ℤ, lit<, ◌^◌, ◌%◌, ◌<◌, nat_lt, pos, true, false, cond, ◌==◌, List, [], ◌∷◌, length, take, drop, fold, Option, Some, None, arith, codes}
 use Rattle.std.proofs.lemmas.Bool.{cases_Bool}
-use Rattle.std.proofs.lemmas.Bool.Decides.{nat_tests}
 use Rattle.script_words.specs.Words.{Word, Row, is_same, word_at, is_number}
 use Rattle.script_words.proofs.Numbers.{is_number-decides}
-use Rattle.unix_names.specs.declared.Signal.{Signal}
-use Rattle.unix_names.specs.declared.Signal.TheVariants.{Hup, Int, Quit, Abrt, Kill, Usr1, Usr2, Pipe, Alrm, Term, Chld, Cont, Stop, Tstp, Ttin, Ttou, Urg}
-use Rattle.unix_names.specs.declared.Act.{Act}
-use Rattle.unix_names.specs.declared.Act.TheVariants as acts
-use Rattle.unix_names.specs.declared.Errno.{Errno}
-use Rattle.unix_names.specs.declared.Errno.TheVariants.{EPERM, ESRCH, EACCES, EINVAL, ECHILD, EAGAIN}
-use Rattle.unix_names.specs.declared.WaitStatus.{WaitStatus}
 use Rattle.unix_names.specs.declared.WaitStatus.TheVariants as status
-use Rattle.unix_names.specs.Signals.{word_of, signal_of, signal_named, all_signals}
-use Rattle.unix_names.specs.Sets.{has, added, IsSignals}
+use Rattle.unix_names.specs.Signals.{signal_named}
+use Rattle.unix_names.specs.Sets.{added, IsSignals}
 use Rattle.unix_names.proofs.SetLaws.{IsSignals-none, IsSignals-added}
 use Rattle.unix_calls.specs.Calls.{IsName, HasNames, EntryHasNames}
 use Rattle.unix_calls.specs.declared.Call.{Call}
-use Rattle.unix_calls.specs.declared.Call.TheVariants as calls
 use Rattle.unix_calls.specs.declared.Reply.{Reply}
 use Rattle.unix_calls.specs.declared.Reply.TheVariants as replies
-use Rattle.unix_calls.specs.declared.Event.{Event}
-use Rattle.unix_calls.specs.declared.Event.TheVariants as events
-use Rattle.unix_calls.specs.declared.Entry.{Entry}
-use Rattle.unix_calls.specs.declared.Entry.TheVariants.{Called, Happened}
 use Rattle.script_words.specs.declared.Verb.{Verb}
 use Rattle.script_words.specs.declared.Verb.TheVariants as verb
-use Rattle.script_words.specs.Table.{errno_named, errno_word, act_word, change_words, changes_in, verb_named}
-use Rattle.script_words.specs.Writing.{word_or_number, signal_word}
-use Rattle.histories.specs.History.{set_words, call_words, status_words, reply_words, event_words}
+use Rattle.script_words.specs.Table.{errno_named, changes_in, verb_named}
 use Rattle.histories.specs.MethodLoose.{number_in, signed_in, number_or, signal_number_in, signal_in, with_named, set_in, status_in, refused_or, worded_reply_in, reply_in, waits, wait_in, call_of, call_named, call_in, words_before, said, entry_in}
-use Rattle.histories.specs.Reading.{entry_words, CallFits, StatusFits, ReplyFits, Fits}
+use Rattle.histories.specs.Reading.{CallFits, StatusFits, ReplyFits, Fits}
 use Rattle.std.proofs.lemmas.Int.{ints}
-use Rattle.text_laws.specs.Plain.{is_plain, are_plain}
-use Rattle.text_laws.proofs.Numbers.{plain-decimal}
-use Rattle.text_laws.proofs.Words.{plain-append}
 use Rattle.unix_names.proofs.SetLaws.{number_small}
-use Rattle.histories.proofs.LooseLaws.{small-pos, small-negsuc}
 
 number-small : (w : Word) → number_in w < 2 ^ 32
 unfolding number_in
@@ -161,110 +141,3 @@ entry-fits row =
       | None ↦ λ _. (number-small (word_at row 0), tt)
       | Some c ↦ λ fit. ((number-small (word_at row 0), fit.0, reply-fits (drop (words_before rest) rest)), fit.1)
     ] (call-fits (take (words_before rest) rest))
-
--- ---- what is written is plain
-plain-number : (n : ℕ) → n < 2 ^ 32 → is_plain (decimal n) ≡ true
-plain-number n h = plain-decimal n (omega arith)
-
-plain-word : (s : Signal) → is_plain (word_of s) ≡ true
-plain-word Hup = refl
-plain-word Int = refl
-plain-word Quit = refl
-plain-word Abrt = refl
-plain-word Kill = refl
-plain-word Usr1 = refl
-plain-word Usr2 = refl
-plain-word Pipe = refl
-plain-word Alrm = refl
-plain-word Term = refl
-plain-word Chld = refl
-plain-word Cont = refl
-plain-word Stop = refl
-plain-word Tstp = refl
-plain-word Ttin = refl
-plain-word Ttou = refl
-plain-word Urg = refl
-
-minus-plain : (ds : Word) → is_plain ds ≡ true → is_plain (45 ∷ ds) ≡ true
-minus-plain ds h = grind (arith, nat_tests)
-
-plain-signed : (z : ℤ) → IsName z → is_plain (signed_decimal z) ≡ true
-plain-signed (pos n) h = plain-number n (small-pos n h)
-plain-signed (negsuc n) h = minus-plain (decimal (suc n)) (plain-number (suc n) (small-negsuc n h))
-
-plain-signal : (n : ℕ) → n < 2 ^ 32 → is_plain (signal_word n) ≡ true
-plain-signal n h = elim (signal_of n) as (λ o. is_plain (word_or_number n o) ≡ true) [ None ↦ plain-number n h | Some s ↦ plain-word s ]
-
-plain-words : (ss : List Signal) → are_plain (map word_of ss) ≡ true
-plain-words [] = refl
-plain-words (s ∷ ss) = rw (plain-word s) (plain-words ss)
-
-plain-set : (set : ℕ) → are_plain (set_words set) ≡ true
-plain-set set = elim (set == 0) as (λ b. are_plain (cond b (codes "-" ∷ []) (map word_of (filter (has set) all_signals))) ≡ true) [
-  | true ↦ refl
-  | false ↦ plain-words (filter (has set) all_signals)
-]
-
-plain-asked : (a b : Bool) → are_plain (change_words a b) ≡ true
-plain-asked false false = refl
-plain-asked true false = refl
-plain-asked false true = refl
-plain-asked true true = refl
-
-plain-act : (a : Act) → are_plain (act_word a ∷ []) ≡ true
-plain-act acts.Default = refl
-plain-act acts.Ignore = refl
-plain-act acts.Catch = refl
-
-plain-call : (c : Call) → CallFits c → HasNames c → are_plain (call_words c) ≡ true
-plain-call calls.Getpid fit names = refl
-plain-call calls.Getppid fit names = refl
-plain-call (calls.Getpgid t) fit names = rw (plain-number t fit) refl
-plain-call (calls.Getsid t) fit names = rw (plain-number t fit) refl
-plain-call calls.Fork fit names = refl
-plain-call calls.Exec fit names = refl
-plain-call (calls.Exit n) fit names = rw (plain-number n fit) refl
-plain-call (calls.Waitpid sel a b) fit names = rw (plain-signed sel names) (plain-asked a b)
-plain-call (calls.Kill target sig) fit names = rw (plain-signed target names, plain-signal sig fit) refl
-plain-call (calls.Setpgid pid pgid) fit names = rw (plain-number pid fit, plain-signed pgid names) refl
-plain-call calls.Setsid fit names = refl
-plain-call (calls.Action sig a) fit names = rw (plain-signal sig fit) (plain-act a)
-plain-call (calls.Mask set) fit names = plain-set set
-plain-call calls.Pending fit names = refl
-plain-call calls.Migrate fit names = refl
-
-plain-status : (s : WaitStatus) → StatusFits s → are_plain (status_words s) ≡ true
-plain-status (status.Exited n) fit = rw (plain-number n (omega arith)) refl
-plain-status (status.Killed s) fit = rw (plain-word s) refl
-plain-status (status.Stopped s) fit = rw (plain-word s) refl
-plain-status status.Continued fit = refl
-
-plain-errno : (e : Errno) → are_plain (errno_word e ∷ []) ≡ true
-plain-errno EPERM = refl
-plain-errno ESRCH = refl
-plain-errno EACCES = refl
-plain-errno EINVAL = refl
-plain-errno ECHILD = refl
-plain-errno EAGAIN = refl
-
-plain-reply : (r : Reply) → ReplyFits r → are_plain (reply_words r) ≡ true
-plain-reply replies.Fine fit = refl
-plain-reply (replies.Number n) fit = rw (plain-number n fit) refl
-plain-reply (replies.Set set) fit = plain-set set
-plain-reply (replies.Child pid s) fit = rw (plain-number pid.0 fit.0) (plain-status s fit.1)
-plain-reply replies.Again fit = refl
-plain-reply (replies.Refused e) fit = plain-errno e
-plain-reply replies.NoReply fit = refl
-
-plain-event : (e : Event) → are_plain (event_words e) ≡ true
-plain-event (events.Caught s) = rw (plain-word s) refl
-plain-event (events.Discarded s) = rw (plain-word s) refl
-plain-event (events.StoppedBy s) = rw (plain-word s) refl
-plain-event (events.EndedBy s) = rw (plain-word s) refl
-plain-event events.Continued = refl
-plain-event events.Moved = refl
-
--- what is written of an entry is plain
-pub plain-entry : (e : Entry) → Fits e → EntryHasNames e → are_plain (entry_words e) ≡ true
-plain-entry (Called caller c r) fit names = rw (plain-number caller.0 fit.0) (plain-append (call_words c) (reply_words r) (plain-call c fit.1 names) (plain-reply r fit.2))
-plain-entry (Happened pid e) fit names = rw (plain-number pid.0 fit) (plain-event e)

@@ -4,6 +4,7 @@ pub mod HistoryLaws
 pub mod LooseLaws
 pub mod Meanings
 pub mod PartLaws
+pub mod PlainLaws
 pub mod Solid
 pub mod WrittenLaws
 pub mod Numerals

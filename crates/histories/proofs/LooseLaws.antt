@@ -1,5 +1,5 @@
 -- what is written of an entry seems to say it
-use Rattle.std.proofs.Common.{inl, inr, ◌≡◌, ℕ, suc, ◌+◌, ◌^◌, ◌<◌, ◌≤◌, ℤ, pos, negsuc, neg_ℤ, Bool, true, false, cond, not, ◌==◌, ◌&&◌, ◌||◌, List, [], ◌∷◌, length, drop, get_or, Bor, map, filter, fold, Option, Some, None, refl, ap, sym, ◌∙◌, arith, codes}
+use Rattle.std.proofs.Common.{inl, inr, ◌≡◌, ℕ, suc, ◌+◌, ◌^◌, ◌<◌, ◌≤◌, ℤ, pos, negsuc, neg_ℤ, Bool, true, false, cond, not, ◌==◌, List, [], ◌∷◌, length, drop, get_or, Bor, map, filter, fold, Option, Some, None, refl, ap, sym, ◌∙◌, arith, codes}
 use Rattle.std.specs.Prelude.{IsNone, take_while, is_some, unwrap_or}
 use Rattle.std.specs.Option.{SomeIff}
 use Rattle.std.proofs.lemmas.List.{at_drop_more, at_drop_all}
@@ -19,12 +19,12 @@ use Rattle.script_words.specs.Words.{Word, is_same, is_number}
 use Rattle.script_words.proofs.Numbers.{is_number-decides}
 use Rattle.text_laws.proofs.Numbers.{IsNumber-decimal, digits_value-decimal}
 use Rattle.unix_names.specs.declared.Signal.{Signal}
-use Rattle.unix_names.specs.declared.Signal.TheVariants.{Hup, Int, Quit, Abrt, Kill, Usr1, Usr2, Pipe, Alrm, Term, Chld, Cont, Stop, Tstp, Ttin, Ttou, Urg}
-use Rattle.unix_names.specs.Signals.{number_of, word_of, signal_of, signal_named, all_signals}
+use Rattle.unix_names.specs.declared.Signal.TheVariants.{Hup}
+use Rattle.unix_names.specs.Signals.{word_of, signal_of, signal_named, all_signals}
 use Rattle.unix_names.specs.Sets.{has, added, IsSignals}
-use Rattle.unix_names.proofs.SignalLaws.{signal_named-word_of, signal_named-none, number_of-signal_of, number_of-distinct}
-use Rattle.unix_names.proofs.SetLaws.{has-added, has-none, IsSignals-none, IsSignals-added, same-signals}
+use Rattle.unix_names.proofs.SignalLaws.{signal_named-word_of, signal_named-none, number_of-signal_of}
 use Rattle.unix_calls.specs.Calls.{IsName}
+use Rattle.script_words.proofs.Members.{members-all}
 use Rattle.script_words.specs.Writing.{word_or_number, signal_word}
 use Rattle.histories.specs.History.{set_words}
 use Rattle.histories.specs.MethodLoose.{number_in, signed_in, number_or, signal_number_in, signal_in, with_named, set_in, words_before}
@@ -71,22 +71,7 @@ signed-read (negsuc n) h = rw (number-read (suc n) (small-negsuc n h)) refl
 pub word-not_number : (s : Signal) → is_number (word_of s) ≡ false
 unfolding is_number
 word-not_number Hup = refl
-word-not_number Int = refl
-word-not_number Quit = refl
-word-not_number Abrt = refl
-word-not_number Kill = refl
-word-not_number Usr1 = refl
-word-not_number Usr2 = refl
-word-not_number Pipe = refl
-word-not_number Alrm = refl
-word-not_number Term = refl
-word-not_number Chld = refl
-word-not_number Cont = refl
-word-not_number Stop = refl
-word-not_number Tstp = refl
-word-not_number Ttin = refl
-word-not_number Ttou = refl
-word-not_number Urg = refl
+word-not_number _ = refl
 
 none-is : {X : Type 0} (o : Option X) → IsNone o → o ≡ None
 none-is None h = refl
@@ -109,70 +94,10 @@ unfolding signal_in
 signal-read s = rw (signal_named-word_of s) refl
 
 -- ---- sets
--- whether a signal is among some
-among : Signal → List Signal → Bool
-among t [] = false
-among t (s ∷ ss) = (number_of t == number_of s) || among t ss
-
-or_assoc : (a b c : Bool) → ((a || b) || c) ≡ (a || (b || c))
-or_assoc true b c = refl
-or_assoc false b c = refl
-
-has-all : (set : ℕ) (ss : List Signal) (t : Signal) → has (fold added set ss) t ≡ (has set t || among t ss)
-unfolding among
-has-all set [] t = elim (has set t) as (λ b. b ≡ (b || false)) [ true ↦ refl | false ↦ refl ]
-has-all set (s ∷ ss) t = has-all (added set s) ss t ∙ ap (λ b. b || among t ss) (has-added set s t) ∙ or_assoc (has set t) (number_of t == number_of s) (among t ss)
-
-among-kept : (p : Signal → Bool) (ss : List Signal) (t : Signal) → among t (filter p ss) ≡ (among t ss && p t)
-unfolding among
-among-kept p [] t = refl
-among-kept p (s ∷ ss) t =
-    let rest = among-kept p ss t in
-    elim (cases_Bool (number_of t == number_of s)) [
-      | inl holds ↦
-          let same : t ≡ s = number_of-distinct t s (eqb-true (number_of t) (number_of s) holds) in
-          let passes : p t ≡ p s = ap p same in
-          elim (cases_Bool (p s)) [ inl w ↦ grind (arith, nat_tests) | inr w ↦ grind (arith, nat_tests) ]
-      | inr other ↦ elim (cases_Bool (p s)) [ inl w ↦ grind (arith, nat_tests) | inr w ↦ grind (arith, nat_tests) ]
-    ]
-
-among-every : (t : Signal) → among t all_signals ≡ true
-unfolding among
-among-every Hup = refl
-among-every Int = refl
-among-every Quit = refl
-among-every Abrt = refl
-among-every Kill = refl
-among-every Usr1 = refl
-among-every Usr2 = refl
-among-every Pipe = refl
-among-every Alrm = refl
-among-every Term = refl
-among-every Chld = refl
-among-every Cont = refl
-among-every Stop = refl
-among-every Tstp = refl
-among-every Ttin = refl
-among-every Ttou = refl
-among-every Urg = refl
-
-signals-all : (set : ℕ) (ss : List Signal) → IsSignals set → IsSignals (fold added set ss)
-unfolding added
-signals-all set [] h = h
-signals-all set (s ∷ ss) h = signals-all (added set s) ss (IsSignals-added set s h)
-
 named-all : (set : ℕ) (ss : List Signal) → fold (λ set word. with_named set (signal_named word)) set (map word_of ss) ≡ fold added set ss
 named-all set [] = refl
 named-all set (s ∷ ss) =
     ap (λ o. fold (λ set word. with_named set (signal_named word)) (with_named set o) (map word_of ss)) (signal_named-word_of s) ∙ named-all (added set s) ss
-
-members-all : (set : ℕ) → IsSignals set → fold added 0 (filter (has set) all_signals) ≡ set
-members-all set h =
-    same-signals (fold added 0 (filter (has set) all_signals)) set (signals-all 0 (filter (has set) all_signals) IsSignals-none) h (λ t.
-    has-all 0 (filter (has set) all_signals) t
-    ∙ ap (λ b. b || among t (filter (has set) all_signals)) (has-none t)
-    ∙ among-kept (has set) all_signals t
-    ∙ ap (λ b. b && has set t) (among-every t))
 
 dash-unnamed : set_in (codes "-" ∷ []) ≡ 0
 unfolding set_in signal_named

@@ -1,7 +1,7 @@
 -- words spell the entry that they seem to say, or none
-use Rattle.std.proofs.Common.{inl, inr, ◌≡◌, ◌⊎◌, ℕ, Bool, true, false, ◌&&◌, List, [], ◌∷◌, ◌++◌, refl, ap, sym, subst, ◌∙◌}
+use Rattle.std.proofs.Common.{inl, inr, ◌≡◌, ◌⊎◌, ℕ, true, List, [], ◌∷◌, ◌++◌, refl, ap, sym, subst, ◌∙◌}
 use Rattle.std.specs.Str.{bytes_eq}
-use Rattle.std.proofs.lemmas.Bool.{cases_Bool}
+use Rattle.std.proofs.lemmas.Bool.{and_parts, cases_Bool}
 use Rattle.std.proofs.lemmas.Slice.Eq.{bytes_eq-Decides}
 use Rattle.unix_calls.specs.declared.Call.TheVariants as calls
 use Rattle.unix_calls.specs.declared.Reply.{Reply}
@@ -20,20 +20,17 @@ use Rattle.unix_calls.specs.Calls.{HasReply}
 use Rattle.histories.specs.MethodLoose.{entry_in}
 use Rattle.histories.specs.Reading.{entry_words, SpellsEntry, AreWords}
 use Rattle.histories.proofs.EntryLaws.{entry-read}
-use Rattle.histories.proofs.FitLaws.{entry-fits, plain-entry}
+use Rattle.histories.proofs.FitLaws.{entry-fits}
+use Rattle.histories.proofs.PlainLaws.{plain-entry}
 use Rattle.histories.proofs.Solid.{Words, solid-words, solid-read}
 
 line-words : (e : Entry) → 32 ∷ line_of e ≡ spaced (entry_words e) ++ 10 ∷ []
 line-words (Called caller c r) = ap (λ (t : List ℕ). t ++ 10 ∷ []) (sym (flat_map-cons (λ (w : List ℕ). 32 ∷ w) (decimal caller.0) (call_words c ++ reply_words r)))
 line-words (Happened pid e) = ap (λ (t : List ℕ). t ++ 10 ∷ []) (sym (flat_map-cons (λ (w : List ℕ). 32 ∷ w) (decimal pid.0) (event_words e)))
 
-both : (a b : Bool) → (a && b) ≡ true → (a ≡ true) × (b ≡ true)
-both true b h = (refl, h)
-both false b h = absurd (cc)
-
 read-back : (w : List ℕ) (ws : Words) → are_plain (w ∷ ws) ≡ true → words (spaced (w ∷ ws)) ≡ w ∷ ws
 read-back w ws h =
-    let parts = both (is_plain w) (are_plain ws) h in
+    let parts = and_parts (is_plain w) (are_plain ws) h in
     ap words (flat_map-cons (λ (w : List ℕ). 32 ∷ w) w ws) ∙ words-spaced w ws parts.0 parts.1
 
 plain-read : (e : Entry) → are_plain (entry_words e) ≡ true → words (spaced (entry_words e)) ≡ entry_words e
@@ -50,7 +47,7 @@ meant ws (line, e) reply written =
     record {
       is_entry = (reply, fit.1);
       fits = fit.0;
-      spelled = sym read ∙ ap words same ∙ plain-read entry (plain-entry entry fit.0 fit.1);
+      spelled = sym read ∙ ap words same ∙ plain-read entry (plain-entry entry);
     }
 
 -- what words spell they seem to say

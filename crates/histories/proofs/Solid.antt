@@ -1,7 +1,7 @@
 -- the words of a line, written one space apart, are its words again
 use Rattle.std.proofs.Common.{◌≡◌, ℕ, ◌<◌, nat_lt, Bool, true, false, not, ◌==◌, ◌&&◌, List, [], ◌∷◌, ◌++◌, length, filter, refl, ap, ◌∙◌, arith, append-nil, inl, inr}
 use Rattle.std.specs.List.{All, list_all, slice_split, onto_first, flat_map}
-use Rattle.std.proofs.lemmas.Bool.{cases_Bool}
+use Rattle.std.proofs.lemmas.Bool.{and_parts, cases_Bool}
 use Rattle.std.proofs.lemmas.Bool.Decides.{nat_tests}
 use Rattle.std.proofs.lemmas.List.Elements.{All-nil, All-cons}
 use Rattle.std.proofs.lemmas.List.Splits.{slice_split_at, slice_split_none, slice_split-cons_yes, slice_split-cons_no}
@@ -18,10 +18,6 @@ unblank word = list_all (λ b. not (is_blank b)) word
 -- a word of a line
 abbrev pub is_solid : List ℕ → Bool
 is_solid word = nat_lt 0 (length word) && unblank word
-
-both : (a b : Bool) → (a && b) ≡ true → (a ≡ true) × (b ≡ true)
-both true b h = (refl, h)
-both false b h = absurd (cc)
 
 unblank-onto : (b : ℕ) (parts : Words) → is_blank b ≡ false → list_all unblank parts ≡ true → list_all unblank (onto_first b parts) ≡ true
 unblank-onto b [] free h = rw free refl
@@ -41,7 +37,7 @@ solid-word w some h = grind (arith, nat_tests)
 solid-kept : (parts : Words) → list_all unblank parts ≡ true → list_all is_solid (filter (λ w. not (length w == 0)) parts) ≡ true
 solid-kept [] h = refl
 solid-kept (p ∷ ps) h =
-    let parts = both (unblank p) (list_all unblank ps) h in
+    let parts = and_parts (unblank p) (list_all unblank ps) h in
     elim (cases_Bool (length p == 0)) [
       | inl none ↦ rw none (solid-kept ps parts.1)
       | inr some ↦ rw some (rw (solid-word p some parts.0) (solid-kept ps parts.1))
@@ -56,7 +52,7 @@ free-byte b h = elim (cases_Bool (is_blank b)) [ inl blank ↦ let e = ap not bl
 whole : (word : List ℕ) → unblank word ≡ true → All (λ b. is_blank b ≡ false) word
 whole [] h = All-nil (λ b. is_blank b ≡ false)
 whole (b ∷ bs) h =
-    let parts = both (not (is_blank b)) (unblank bs) h in
+    let parts = and_parts (not (is_blank b)) (unblank bs) h in
     All-cons (λ b. is_blank b ≡ false) b bs (free-byte b parts.0) (whole bs parts.1)
 
 kept : (word : List ℕ) (parts : Words) → 0 < length word → filter (λ w. not (length w == 0)) (word ∷ parts) ≡ word ∷ filter (λ w. not (length w == 0)) parts
@@ -64,17 +60,17 @@ kept [] parts h = absurd (omega arith)
 kept (b ∷ bs) parts h = grind (arith, nat_tests)
 
 some : (word : List ℕ) → is_solid word ≡ true → 0 < length word
-some word h = let parts = both (nat_lt 0 (length word)) (unblank word) h in grind (arith, nat_tests)
+some word h = let parts = and_parts (nat_lt 0 (length word)) (unblank word) h in grind (arith, nat_tests)
 
 read-first : (word : List ℕ) (ws : Words) → is_solid word ≡ true → list_all is_solid ws ≡ true → words (word ++ flat_map (λ w. 32 ∷ w) ws) ≡ word ∷ ws
 read-first word [] first rest =
-    let free = whole word ((both (nat_lt 0 (length word)) (unblank word) first).1) in
+    let free = whole word ((and_parts (nat_lt 0 (length word)) (unblank word) first).1) in
     ap words (append-nil word)
     ∙ ap (filter (λ w. not (length w == 0))) (slice_split_none is_blank word free)
     ∙ kept word [] (some word first)
 read-first word (w ∷ ws) first rest =
-    let parts = both (is_solid w) (list_all is_solid ws) rest in
-    let free = whole word ((both (nat_lt 0 (length word)) (unblank word) first).1) in
+    let parts = and_parts (is_solid w) (list_all is_solid ws) rest in
+    let free = whole word ((and_parts (nat_lt 0 (length word)) (unblank word) first).1) in
     let tail : List ℕ = w ++ flat_map (λ w. 32 ∷ w) ws in
     ap (λ (t : List ℕ). words (word ++ t)) (flat_map-cons (λ (w : List ℕ). 32 ∷ w) w ws)
     ∙ ap (filter (λ w. not (length w == 0))) (slice_split_at is_blank word 32 tail free refl)
@@ -85,5 +81,5 @@ read-first word (w ∷ ws) first rest =
 pub solid-read : (ws : Words) → list_all is_solid ws ≡ true → words (flat_map (λ w. 32 ∷ w) ws) ≡ ws
 solid-read [] h = refl
 solid-read (w ∷ ws) h =
-    let parts = both (is_solid w) (list_all is_solid ws) h in
+    let parts = and_parts (is_solid w) (list_all is_solid ws) h in
     ap words (flat_map-cons (λ (w : List ℕ). 32 ∷ w) w ws) ∙ read-first w ws parts.0 parts.1

@@ -1,5 +1,6 @@
 -- the words of a line of a stamped entry
-use Rattle.std.proofs.Common.{◌≡◌, ℕ, suc, ◌-◌, ◌^◌, ◌<◌, ◌≤◌, Bool, true, false, ◌&&◌, List, [], ◌∷◌, length, take, drop, map, get_or, Bor, refl, ap, sym, subst, ◌∙◌, arith}
+use Rattle.std.proofs.Common.{◌≡◌, ℕ, suc, ◌-◌, ◌^◌, ◌<◌, ◌≤◌, true, List, [], ◌∷◌, length, take, drop, map, get_or, Bor, ap, sym, subst, ◌∙◌, arith}
+use Rattle.std.proofs.lemmas.Bool.{and_parts}
 use Rattle.std.proofs.Math.Seq.{take-length}
 use Rattle.unix_calls.specs.declared.Entry.{Entry}
 use Rattle.std.specs.List.{list_all, flat_map}
@@ -10,15 +11,11 @@ use Rattle.histories.specs.Reading.{AreWords, SpellsEntry}
 use Rattle.histories.specs.Stamped.{SpellsStamped}
 use Rattle.histories.proofs.Solid.{is_solid, solid-words, solid-read}
 
-both : (a b : Bool) → (a && b) ≡ true → (a ≡ true) × (b ≡ true)
-both true b h = (refl, h)
-both false b h = absurd (cc)
-
 -- words behind the first two of a line are words of a line
 pub rest_words : (a b : Word) (rest : Row) → AreWords (a ∷ b ∷ rest) → AreWords rest
 rest_words a b rest (line, e) =
     let all : list_all is_solid (a ∷ b ∷ rest) ≡ true = ap (list_all is_solid) e ∙ solid-words line in
-    let behind = (both (is_solid b) (list_all is_solid rest) (both (is_solid a) (list_all is_solid (b ∷ rest)) all).1).1 in
+    let behind = (and_parts (is_solid b) (list_all is_solid rest) (and_parts (is_solid a) (list_all is_solid (b ∷ rest)) all).1).1 in
     (flat_map (λ w. 32 ∷ w) rest, sym (solid-read rest behind))
 
 no_less : (n : ℕ) → suc (suc n) - 2 ≡ n

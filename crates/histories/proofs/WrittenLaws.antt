@@ -1,5 +1,5 @@
 -- a history that was written is one of its entries
-use Rattle.std.proofs.Common.{◌≡◌, ℕ, ◌^◌, ◌<◌, Bool, true, false, ◌&&◌, ◌||◌, List, [], ◌∷◌, ◌++◌, refl, ap, sym, subst, ◌∙◌, arith, append_assoc, codes}
+use Rattle.std.proofs.Common.{◌≡◌, ℕ, ◌^◌, ◌<◌, Bool, true, false, ◌||◌, List, [], ◌∷◌, ◌++◌, refl, ap, sym, subst, ◌∙◌, arith, append_assoc, map, codes}
 use Rattle.std.specs.Prelude.{All, MatchBool}
 use Rattle.std.specs.List.{flat_map}
 use Rattle.std.specs.Fmt.{decimal}
@@ -18,22 +18,19 @@ use Rattle.script_words.specs.Words.{is_skipped, begins_with_hash}
 use Rattle.file_parts.specs.Parts.{Lines, stands_alone, is_only}
 use Rattle.text_laws.specs.Plain.{is_plain, are_plain}
 use Rattle.text_laws.proofs.Lines.{lines-newline}
+use Rattle.text_laws.proofs.Numbers.{plain-decimal}
 use Rattle.text_laws.proofs.Words.{words-spaced, line-spaced}
 use Rattle.script_words.specs.Writing.{spaced}
 use Rattle.histories.specs.History.{line_of, call_words, reply_words, event_words, last_line, text}
 use Rattle.unix_calls.specs.Calls.{IsEntry}
 use Rattle.histories.specs.Reading.{entry_words, Means, Fits, is_nothing, is_last, is_schedule, Ends, OnLine, IsHistory}
-use Rattle.histories.proofs.FitLaws.{plain-entry}
+use Rattle.histories.proofs.PlainLaws.{plain-called, plain-event}
 use Rattle.histories.proofs.HistoryLaws.{no}
 
 -- the line of an entry, without its newline
-said : Entry → List ℕ
-said (Called caller c r) = decimal caller.0 ++ spaced (call_words c ++ reply_words r)
-said (Happened pid e) = decimal pid.0 ++ spaced (event_words e)
-
-both : (a b : Bool) → (a && b) ≡ true → (a ≡ true) × (b ≡ true)
-both true b h = (refl, h)
-both false b h = absurd (cc)
+abbrev pub entry_line : Entry → List ℕ
+entry_line (Called caller c r) = decimal caller.0 ++ spaced (call_words c ++ reply_words r)
+entry_line (Happened pid e) = decimal pid.0 ++ spaced (event_words e)
 
 pub cut : (w : List ℕ) (ws : List (List ℕ)) (tail : List ℕ) → is_plain w ≡ true → are_plain ws ≡ true
     → lines ((w ++ spaced ws ++ 10 ∷ []) ++ tail) ≡ (w ++ spaced ws) ∷ lines tail
@@ -43,15 +40,24 @@ cut w ws tail first rest =
     ∙ lines-newline (w ++ spaced ws) tail line.one
     ∙ ap (λ (l : List ℕ). l ∷ lines tail) line.kept
 
-first-line : (e : Entry) (tail : List ℕ) → are_plain (entry_words e) ≡ true → lines (line_of e ++ tail) ≡ said e ∷ lines tail
-unfolding said
-first-line (Called caller c r) tail h = let parts = both (is_plain (decimal caller.0)) (are_plain (call_words c ++ reply_words r)) h in cut (decimal caller.0) (call_words c ++ reply_words r) tail parts.0 parts.1
-first-line (Happened pid e) tail h = let parts = both (is_plain (decimal pid.0)) (are_plain (event_words e)) h in cut (decimal pid.0) (event_words e) tail parts.0 parts.1
+first-line : (e : Entry) (tail : List ℕ) → lines (line_of e ++ tail) ≡ entry_line e ∷ lines tail
+first-line (Called caller c r) tail = cut (decimal caller.0) (call_words c ++ reply_words r) tail (plain-decimal caller.0) (plain-called c r)
+first-line (Happened pid e) tail = cut (decimal pid.0) (event_words e) tail (plain-decimal pid.0) (plain-event e)
 
-said-words : (e : Entry) → are_plain (entry_words e) ≡ true → words (said e) ≡ entry_words e
-unfolding said
-said-words (Called caller c r) h = let parts = both (is_plain (decimal caller.0)) (are_plain (call_words c ++ reply_words r)) h in words-spaced (decimal caller.0) (call_words c ++ reply_words r) parts.0 parts.1
-said-words (Happened pid e) h = let parts = both (is_plain (decimal pid.0)) (are_plain (event_words e)) h in words-spaced (decimal pid.0) (event_words e) parts.0 parts.1
+more-lines : (e : Entry) (es : List Entry) (rest : List ℕ) → lines (flat_map line_of (e ∷ es) ++ rest) ≡ entry_line e ∷ lines (flat_map line_of es ++ rest)
+more-lines e es rest =
+    ap (λ (t : List ℕ). lines (t ++ rest)) (flat_map-cons line_of e es)
+    ∙ ap lines (append_assoc (line_of e) (flat_map line_of es) rest)
+    ∙ first-line e (flat_map line_of es ++ rest)
+
+-- the lines of what is written of entries, and of what stands behind it
+pub entry_lines : (es : List Entry) (rest : List ℕ) → lines (flat_map line_of es ++ rest) ≡ map entry_line es ++ lines rest
+entry_lines [] rest = refl
+entry_lines (e ∷ es) rest = more-lines e es rest ∙ ap (λ (ls : Lines). entry_line e ∷ ls) (entry_lines es rest)
+
+said-words : (e : Entry) → words (entry_line e) ≡ entry_words e
+said-words (Called caller c r) = words-spaced (decimal caller.0) (call_words c ++ reply_words r) (plain-decimal caller.0) (plain-called c r)
+said-words (Happened pid e) = words-spaced (decimal pid.0) (event_words e) (plain-decimal pid.0) (plain-event e)
 
 pub no-hash : (ds : List ℕ) → AllDigits 10 ds → begins_with_hash ds ≡ false
 no-hash [] h = refl
@@ -78,15 +84,19 @@ entry-long : (word : List ℕ) (e : Entry) → stands_alone word (entry_words e)
 entry-long word (Called caller c r) = refl
 entry-long word (Happened pid e) = event-long word (decimal pid.0) e
 
+-- no word stands alone on its line
+pub entry_not_only : (word : List ℕ) (e : Entry) → is_only word (entry_line e) ≡ false
+entry_not_only word e = ap (stands_alone word) (said-words e) ∙ entry-long word e
+
 -- the line of an entry is one of a history
-on-line : (e : Entry) (es : List Entry) (ls : Lines) → IsEntry e → Fits e → IsHistory ls es → IsHistory (said e ∷ ls) (e ∷ es)
+on-line : (e : Entry) (es : List Entry) (ls : Lines) → IsEntry e → Fits e → IsHistory ls es → IsHistory (entry_line e ∷ ls) (e ∷ es)
 on-line e es ls entry fit rest =
-    let l = said e in
-    let row = said-words e (plain-entry e fit entry.1) in
+    let l = entry_line e in
+    let row = said-words e in
     let nothing : is_nothing l ≡ false = ap is_skipped row ∙ entry-says e fit in
-    let unscheduled : is_schedule l ≡ false = ap (stands_alone (codes "schedule")) row ∙ entry-long (codes "schedule") e in
-    let quiet : is_only (codes "quiet") l ≡ false = ap (stands_alone (codes "quiet")) row ∙ entry-long (codes "quiet") e in
-    let unclosed : is_only (codes "open") l ≡ false = ap (stands_alone (codes "open")) row ∙ entry-long (codes "open") e in
+    let unscheduled : is_schedule l ≡ false = entry_not_only (codes "schedule") e in
+    let quiet : is_only (codes "quiet") l ≡ false = entry_not_only (codes "quiet") e in
+    let unclosed : is_only (codes "open") l ≡ false = entry_not_only (codes "open") e in
     let told : is_last l ≡ false = ap (λ b. b || is_only (codes "open") l) quiet ∙ unclosed in
     let all : List Entry = e ∷ es in
     let D : Type 0 = OnLine Means l (IsHistory ls) all in
@@ -101,9 +111,7 @@ entries-written (e ∷ es) rest all fit h =
     let first : Fits e = All-head Fits e es fit in
     let tail : List ℕ = flat_map line_of es ++ rest in
     let P : Lines → Type 0 = λ ls. IsHistory ls (e ∷ es) in
-    let cut : lines (flat_map line_of (e ∷ es) ++ rest) ≡ said e ∷ lines tail =
-    ap (λ (t : List ℕ). lines (t ++ rest)) (flat_map-cons line_of e es) ∙ ap lines (append_assoc (line_of e) (flat_map line_of es) rest) ∙ first-line e tail (plain-entry e first entry.1) in
-    subst P (sym cut) (on-line e es (lines tail) entry first (entries-written es rest (All-tail IsEntry e es all) (All-tail Fits e es fit) h))
+    subst P (sym (more-lines e es rest)) (on-line e es (lines tail) entry first (entries-written es rest (All-tail IsEntry e es all) (All-tail Fits e es fit) h))
 
 last-written : (quiet : Bool) → IsHistory (lines (last_line quiet)) []
 unfolding is_skipped

@@ -1,5 +1,5 @@
 -- a history of format 2 that was written is one of its stamped entries
-use Rattle.std.proofs.Common.{◌≡◌, ℕ, ◌^◌, ◌<◌, Bool, true, false, ◌&&◌, ◌||◌, List, [], ◌∷◌, ◌++◌, refl, ap, sym, subst, ◌∙◌, arith, append_assoc, codes}
+use Rattle.std.proofs.Common.{◌≡◌, ℕ, ◌^◌, ◌<◌, Bool, true, false, ◌||◌, List, [], ◌∷◌, ◌++◌, refl, ap, sym, subst, ◌∙◌, arith, append_assoc, codes}
 use Rattle.std.specs.Prelude.{All, MatchBool}
 use Rattle.std.specs.List.{flat_map}
 use Rattle.std.specs.Fmt.{decimal}
@@ -12,14 +12,14 @@ use Rattle.unix_calls.specs.declared.Entry.TheVariants.{Called, Happened}
 use Rattle.file_parts.specs.Parts.{Lines, stands_alone, is_only}
 use Rattle.script_words.specs.Words.{Row, is_skipped, is_same}
 use Rattle.script_words.specs.Writing.{spaced}
-use Rattle.text_laws.specs.Plain.{is_plain, are_plain}
+use Rattle.text_laws.specs.Plain.{are_plain}
 use Rattle.text_laws.proofs.Numbers.{plain-decimal}
 use Rattle.text_laws.proofs.Words.{words-spaced}
 use Rattle.histories.specs.declared.stamped.Stamped.{Stamped}
 use Rattle.histories.specs.History.{line_of, call_words, reply_words, event_words, last_line}
 use Rattle.histories.specs.Reading.{entry_words, is_nothing, is_last, is_schedule, Ends, OnLine, IsHistoryOf}
 use Rattle.histories.specs.Stamped.{stamped_line, text_two, FitsStamped, IsStamped, MeansStamped, IsFormatTwo, IsHistoryTwo}
-use Rattle.histories.proofs.FitLaws.{plain-entry}
+use Rattle.histories.proofs.PlainLaws.{plain-entry}
 use Rattle.histories.proofs.HistoryLaws.{no}
 use Rattle.histories.proofs.WrittenLaws.{cut, no-hash}
 
@@ -44,24 +44,17 @@ line-written : (place uid : ℕ) (e : Entry) → decimal place ++ (32 ∷ (decim
 line-written place uid (Called caller c r) = written (decimal place) (decimal uid) (decimal caller.0) (call_words c ++ reply_words r)
 line-written place uid (Happened pid e) = written (decimal place) (decimal uid) (decimal pid.0) (event_words e)
 
-and_true : (a b : Bool) → a ≡ true → b ≡ true → (a && b) ≡ true
-and_true true true x y = refl
-and_true true false x y = y
-and_true false b x y = x
+behind-plain : (s : Stamped) → are_plain (behind s) ≡ true
+behind-plain s = rw (plain-decimal s.uid) (plain-entry s.entry)
 
-behind-plain : (s : Stamped) → IsStamped s → FitsStamped s → are_plain (behind s) ≡ true
-behind-plain s entry fit =
-    let small = fit.1 in
-    and_true (is_plain (decimal s.uid)) (are_plain (entry_words s.entry)) (plain-decimal s.uid (omega (arith, small))) (plain-entry s.entry fit.2 entry.1)
-
-first-line : (s : Stamped) (tail : List ℕ) → IsStamped s → FitsStamped s → lines (stamped_line s ++ tail) ≡ said s ∷ lines tail
+first-line : (s : Stamped) (tail : List ℕ) → lines (stamped_line s ++ tail) ≡ said s ∷ lines tail
 unfolding said
-first-line s tail entry fit =
-    ap (λ (t : List ℕ). lines (t ++ tail)) (line-written s.place s.uid s.entry) ∙ cut (decimal s.place) (behind s) tail (plain-decimal s.place fit.0) (behind-plain s entry fit)
+first-line s tail =
+    ap (λ (t : List ℕ). lines (t ++ tail)) (line-written s.place s.uid s.entry) ∙ cut (decimal s.place) (behind s) tail (plain-decimal s.place) (behind-plain s)
 
-said-words : (s : Stamped) → IsStamped s → FitsStamped s → words (said s) ≡ decimal s.place ∷ behind s
+said-words : (s : Stamped) → words (said s) ≡ decimal s.place ∷ behind s
 unfolding said
-said-words s entry fit = words-spaced (decimal s.place) (behind s) (plain-decimal s.place fit.0) (behind-plain s entry fit)
+said-words s = words-spaced (decimal s.place) (behind s) (plain-decimal s.place) (behind-plain s)
 
 place-says : (n : ℕ) (ws : Row) → n < 2 ^ 64 → is_skipped (decimal n ∷ ws) ≡ false
 unfolding is_skipped
@@ -74,7 +67,7 @@ long word p s = refl
 on-line : (s : Stamped) (ss : List Stamped) (ls : Lines) → IsStamped s → FitsStamped s → IsHistoryOf MeansStamped ls ss → IsHistoryOf MeansStamped (said s ∷ ls) (s ∷ ss)
 on-line s ss ls entry fit rest =
     let l = said s in
-    let row = said-words s entry fit in
+    let row = said-words s in
     let nothing : is_nothing l ≡ false = ap is_skipped row ∙ place-says s.place (behind s) fit.0 in
     let unscheduled : is_schedule l ≡ false = ap (stands_alone (codes "schedule")) row ∙ long (codes "schedule") (decimal s.place) s in
     let quiet : is_only (codes "quiet") l ≡ false = ap (stands_alone (codes "quiet")) row ∙ long (codes "quiet") (decimal s.place) s in
@@ -95,7 +88,7 @@ entries-written (s ∷ ss) rest all fit h =
     let tail : List ℕ = flat_map stamped_line ss ++ rest in
     let P : Lines → Type 0 = λ ls. IsHistoryOf MeansStamped ls (s ∷ ss) in
     let cut : lines (flat_map stamped_line (s ∷ ss) ++ rest) ≡ said s ∷ lines tail =
-    ap (λ (t : List ℕ). lines (t ++ rest)) (flat_map-cons stamped_line s ss) ∙ ap lines (append_assoc (stamped_line s) (flat_map stamped_line ss) rest) ∙ first-line s tail entry first in
+    ap (λ (t : List ℕ). lines (t ++ rest)) (flat_map-cons stamped_line s ss) ∙ ap lines (append_assoc (stamped_line s) (flat_map stamped_line ss) rest) ∙ first-line s tail in
     subst P (sym cut) (on-line s ss (lines tail) entry first (entries-written ss rest (All-tail IsStamped s ss all) (All-tail FitsStamped s ss fit) h))
 
 last-written : (quiet : Bool) → IsHistoryOf MeansStamped (lines (last_line quiet)) []

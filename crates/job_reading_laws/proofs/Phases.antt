@@ -10,7 +10,7 @@ use Rattle.job_plans.specs.Files.{job_of, IsInPhase, after_line, all_idle, AreLi
 use Rattle.job_files.specs.declared.faults.JobKind.TheVariants.{JobTwice, NotInBackground}
 use Rattle.job_files.specs.MethodReading.{phase_with, phase_of, must_be_idle, must_be_back, fits}
 use Rattle.job_reading_laws.specs.Faults.{after_lines, IsUntimely}
-use Rattle.job_reading_laws.proofs.Results.{Tells, tells_ok, tells_err}
+use Rattle.fault_laws.proofs.Tells.{Tells, tells_ok, tells_err}
 
 flipped : (i j : ℕ) → (i == j) ≡ (j == i)
 flipped i j = go (i == j) refl

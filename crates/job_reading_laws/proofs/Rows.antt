@@ -24,7 +24,8 @@ use Rattle.job_files.specs.declared.drafts.Draft.{Draft}
 use Rattle.job_files.specs.MethodReading.{◌>>=◌, number_in, cluster_row, name, number_of, new_name, fresh_name, job_stages, job_row, stage, stages, line_named, known, phase_of, fits, step_count, told, told_line, told_row, is_named, words_row, row_says, file_of, first_draft}
 use Rattle.job_reading_laws.specs.Grammar.{SpellsStage, verb_of}
 use Rattle.job_reading_laws.specs.Faults.{IsNoName, IsStageWord, IsNoStage, HasNoStage, IsTotal, IsNoCluster, IsWrongFirst, AreTooMany, IsNoPipeline, IsNoJob, after_lines, IsUntimely, IsTooLong, IsNoLine, IsNoTelling, IsVerb, IsWrong}
-use Rattle.job_reading_laws.proofs.Results.{Tells, tells_ok, tells_err, tells_next, tells_choice, tells_weaker}
+use Rattle.fault_laws.proofs.Tells.{Tells, tells_ok, tells_err, tells_choice, tells_weaker}
+use Rattle.job_reading_laws.proofs.Results.{tells_next}
 use Rattle.job_reading_laws.proofs.Words.{number_told, stage_told, name_told, called, uncalled, contained}
 use Rattle.job_reading_laws.proofs.Phases.{line_fits}
 use Rattle.job_reading_laws.proofs.Steps.{step_total, steps_push, acts_many}

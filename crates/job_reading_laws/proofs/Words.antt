@@ -25,7 +25,8 @@ use Rattle.job_files.specs.declared.faults.JobKind.TheVariants.{BadNumber, NoSuc
 use Rattle.job_files.specs.MethodReading.{◌>>=◌, as_number, number_in, status, node, stage_cut, at_sign, stage, as_name, name, number_of}
 use Rattle.job_reading_laws.specs.Grammar.{SpellsStage}
 use Rattle.job_reading_laws.specs.Faults.{IsNoName, IsStatus, AreNoHalves, IsNoStage}
-use Rattle.job_reading_laws.proofs.Results.{Tells, tells_ok, tells_err, tells_next, tells_choice, tells_weaker}
+use Rattle.fault_laws.proofs.Tells.{Tells, tells_ok, tells_err, tells_choice, tells_weaker}
+use Rattle.job_reading_laws.proofs.Results.{tells_next}
 
 -- ---- numbers
 no_length : (w : Word) → IsNumber w → length w ≡ 0 → ⊥

@@ -27,7 +27,7 @@ use Rattle.job_files.specs.declared.drafts.Draft.{Draft}
 use Rattle.job_files.specs.MethodReading.{◌>>=◌, as_name, name, status, node, stage_cut, stage, stages, cluster_row, number_of, new_name, counted, job_stages, job_row, line_named, known, phase_of, fits, step_count, told, told_line, told_row, is_named, words_row, row_says, file_of, first_draft}
 use Rattle.job_reading_laws.specs.Grammar.{verb_of}
 use Rattle.job_reading_laws.specs.Faults.{IsNoName, IsStatus, AreNoHalves, IsNoStage, IsStageWord, HasNoStage, IsNoCluster, IsWrongFirst, AreTooMany, IsNoPipeline, IsNoJob, after_lines, IsUntimely, IsTooLong, IsNoLine, IsNoTelling, IsVerb, IsWrong}
-use Rattle.job_reading_laws.proofs.Results.{Tells}
+use Rattle.fault_laws.proofs.Tells.{Tells}
 use Rattle.job_reading_laws.proofs.Words.{status_told, number_is, number_bad, is_at, none_there, cut_is, stage_is, name_is, no_number, number_called}
 use Rattle.job_reading_laws.proofs.Phases.{line_fits, timely}
 use Rattle.job_reading_laws.proofs.Steps.{steps_push, acts_many}

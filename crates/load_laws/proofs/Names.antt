@@ -3,7 +3,7 @@ use Rattle.std.proofs.Common.{◌≡◌, ◌⊎◌, inl, inr, ◌++◌, ℕ, ◌
 use Rattle.std.specs.List.{list_all}
 use Rattle.std.specs.Fmt.{decimal}
 use Rattle.std.specs.Str.Parse.{AllDigits}
-use Rattle.std.proofs.lemmas.Bool.{eqb-false}
+use Rattle.std.proofs.lemmas.Bool.{and_parts, eqb-false}
 use Rattle.std.proofs.lemmas.Bool.Decides.{nat_tests}
 use Rattle.std.proofs.lemmas.Fmt.{decimal_injective, length-decimal-le}
 use Rattle.std.proofs.lemmas.List.Elements.{All-nil, All-cons, All-append}
@@ -13,7 +13,7 @@ use Rattle.script_laws.specs.Grammar.{IsName, IsCalled, AreNames}
 use Rattle.load_maker.specs.Made.{worker_name, leader_name, child_name, start_name}
 use Rattle.load_laws.specs.Worlds.{firsts}
 use Rattle.load_laws.proofs.Lists.{length-firsts, All-firsts, get-either, firsts-get}
-use Rattle.load_laws.proofs.Rows.{digits-decimal, both}
+use Rattle.load_laws.proofs.Rows.{digits-decimal}
 
 digits-names : (ds : List ℕ) → AllDigits 10 ds → list_all is_name_byte ds ≡ true
 digits-names [] h = refl
@@ -43,7 +43,7 @@ not-true false h = refl
 free : (word : Word) (rs : List Word) → list_all (λ r. not (slice_index word 0 == slice_index r 0)) rs ≡ true → All (Differs word) rs
 free word [] h = All-nil (Differs word)
 free word (r ∷ rs) h =
-    let parts = both (not (slice_index word 0 == slice_index r 0)) (list_all (λ r. not (slice_index word 0 == slice_index r 0)) rs) h in
+    let parts = and_parts (not (slice_index word 0 == slice_index r 0)) (list_all (λ r. not (slice_index word 0 == slice_index r 0)) rs) h in
     All-cons (Differs word) r rs (first-differs word r (not-true (slice_index word 0 == slice_index r 0) parts.0)) (free word rs parts.1)
 
 -- behind its first byte a child's name has digits alone

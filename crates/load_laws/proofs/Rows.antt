@@ -4,7 +4,7 @@ use Rattle.std.specs.List.{list_all, flat_map}
 use Rattle.std.specs.Fmt.{decimal}
 use Rattle.std.specs.Str.{is_utf8}
 use Rattle.std.specs.Str.Parse.{AllDigits}
-use Rattle.std.proofs.lemmas.Bool.{lt-ltb}
+use Rattle.std.proofs.lemmas.Bool.{and_parts, lt-ltb}
 use Rattle.std.proofs.lemmas.Bool.Decides.{nat_tests}
 use Rattle.std.proofs.lemmas.Fmt.{decimal_is_IsNumeral}
 use Rattle.std.proofs.lemmas.List.Elements.{All-nil, All-cons}
@@ -32,10 +32,6 @@ abbrev pub is_fine_row : Row → Bool
 is_fine_row [] = false
 is_fine_row (w ∷ ws) = is_fine w && list_all is_fine ws
 
-pub both : (a b : Bool) → (a && b) ≡ true → (a ≡ true) × (b ≡ true)
-both true b h = (refl, h)
-both false b h = absurd (cc)
-
 printed-digits : (ds : List ℕ) → AllDigits 10 ds → list_all is_printed ds ≡ true
 printed-digits [] h = refl
 printed-digits (c ∷ cs) h =
@@ -62,7 +58,7 @@ printed-visible b h = (grind (arith, nat_tests), grind (arith, nat_tests))
 all-visible : (bs : List ℕ) → list_all is_printed bs ≡ true → list_all is_visible bs ≡ true
 all-visible [] h = refl
 all-visible (b ∷ bs) h =
-    let parts = both (is_printed b) (list_all is_printed bs) h in
+    let parts = and_parts (is_printed b) (list_all is_printed bs) h in
     ap (λ t. t && list_all is_visible bs) ((printed-visible b parts.0).0) ∙ all-visible bs parts.1
 
 fine-plain : (word : List ℕ) → is_fine word ≡ true → is_plain word ≡ true
@@ -72,7 +68,7 @@ fine-plain (b ∷ bs) h = ap (λ t. t && list_all is_visible (b ∷ bs)) (lt-ltb
 fine-plains : (ws : Row) → list_all is_fine ws ≡ true → are_plain ws ≡ true
 fine-plains [] h = refl
 fine-plains (w ∷ ws) h =
-    let parts = both (is_fine w) (list_all is_fine ws) h in
+    let parts = and_parts (is_fine w) (list_all is_fine ws) h in
     ap (λ t. t && are_plain ws) (fine-plain w parts.0) ∙ fine-plains ws parts.1
 
 ascii-nil : IsAscii []
@@ -85,7 +81,7 @@ ascii-cons b bs low rest (suc i) = rest i
 printed-ascii : (bs : List ℕ) → list_all is_printed bs ≡ true → IsAscii bs
 printed-ascii [] h = ascii-nil
 printed-ascii (b ∷ bs) h =
-    let parts = both (is_printed b) (list_all is_printed bs) h in
+    let parts = and_parts (is_printed b) (list_all is_printed bs) h in
     ascii-cons b bs ((printed-visible b parts.0).1) (printed-ascii bs parts.1)
 
 fine-ascii : (word : List ℕ) → is_fine word ≡ true → IsAscii word
@@ -115,25 +111,25 @@ pub record IsGood (row : Row) : Type 0 where
 row-words : (row : Row) → is_fine_row row ≡ true → words (written row) ≡ row
 row-words [] h = cc
 row-words (w ∷ ws) h =
-    let parts = both (is_fine w) (list_all is_fine ws) h in
+    let parts = and_parts (is_fine w) (list_all is_fine ws) h in
     words-spaced w ws (fine-plain w parts.0) (fine-plains ws parts.1)
 
 row-line : (row : Row) → is_fine_row row ≡ true → IsLine (written row)
 row-line [] h = cc
 row-line (w ∷ ws) h =
-    let parts = both (is_fine w) (list_all is_fine ws) h in
+    let parts = and_parts (is_fine w) (list_all is_fine ws) h in
     line-spaced w ws (fine-plain w parts.0) (fine-plains ws parts.1)
 
 spaced-ascii : (ws : Row) → list_all is_fine ws ≡ true → IsAscii (flat_map (λ w. 32 ∷ w) ws)
 spaced-ascii [] h = ascii-nil
 spaced-ascii (w ∷ ws) h =
-    let parts = both (is_fine w) (list_all is_fine ws) h in
+    let parts = and_parts (is_fine w) (list_all is_fine ws) h in
     IsAscii-append (32 ∷ w) (flat_map (λ w. 32 ∷ w) ws) (ascii-cons 32 w (omega arith) (fine-ascii w parts.0)) (spaced-ascii ws parts.1)
 
 row-utf8 : (row : Row) → is_fine_row row ≡ true → is_utf8 (written row) ≡ true
 row-utf8 [] h = cc
 row-utf8 (w ∷ ws) h =
-    let parts = both (is_fine w) (list_all is_fine ws) h in
+    let parts = and_parts (is_fine w) (list_all is_fine ws) h in
     is_utf8-from_IsUtf8 (written (w ∷ ws)) (IsUtf8-from_ascii (written (w ∷ ws)) (IsAscii-append w (flat_map (λ w. 32 ∷ w) ws) (fine-ascii w parts.0) (spaced-ascii ws parts.1)))
 
 -- ---- texts

@@ -1,5 +1,6 @@
 -- words of ASCII are a text
-use Rattle.std.proofs.Common.{◌≡◌, ℕ, zero, suc, ◌<◌, ◌^◌, nat_lt, Bool, true, false, ◌&&◌, List, [], ◌∷◌, ◌++◌, refl, ap, ◌∙◌, arith}
+use Rattle.std.proofs.Common.{◌≡◌, ℕ, zero, suc, ◌<◌, ◌^◌, nat_lt, Bool, true, ◌&&◌, List, [], ◌∷◌, ◌++◌, refl, ap, ◌∙◌, arith}
+use Rattle.std.proofs.lemmas.Bool.{and_parts}
 use Rattle.std.specs.List.{list_all, flat_map}
 use Rattle.std.specs.Fmt.{decimal}
 use Rattle.std.specs.Str.{IsAscii, is_utf8}
@@ -15,17 +16,13 @@ use Rattle.std.proofs.lemmas.Bool.Decides.{nat_tests}
 abbrev pub is_low : ℕ → Bool
 is_low b = nat_lt b 128
 
-both : (a b : Bool) → (a && b) ≡ true → (a ≡ true) × (b ≡ true)
-both true b h = (refl, h)
-both false b h = absurd (cc)
-
 low : (b : ℕ) → is_low b ≡ true → b < 128
 low b h = grind (arith, nat_tests)
 
 ascii-from_low : (bs : List ℕ) → list_all is_low bs ≡ true → IsAscii bs
 ascii-from_low [] h i = omega arith
-ascii-from_low (b ∷ bs) h zero = low b ((both (is_low b) (list_all is_low bs) h).0)
-ascii-from_low (b ∷ bs) h (suc i) = ascii-from_low bs ((both (is_low b) (list_all is_low bs) h).1) i
+ascii-from_low (b ∷ bs) h zero = low b ((and_parts (is_low b) (list_all is_low bs) h).0)
+ascii-from_low (b ∷ bs) h (suc i) = ascii-from_low bs ((and_parts (is_low b) (list_all is_low bs) h).1) i
 
 pub utf8-from_low : (bs : List ℕ) → list_all is_low bs ≡ true → is_utf8 bs ≡ true
 utf8-from_low bs h = is_utf8-from_IsUtf8 bs (IsUtf8-from_ascii bs (ascii-from_low bs h))
@@ -36,7 +33,7 @@ low-append xs ys hx hy = list_all-append is_low xs ys ∙ ap (λ t. t && list_al
 pub low-spaced : (ws : List (List ℕ)) → list_all (list_all is_low) ws ≡ true → list_all is_low (flat_map (λ w. 32 ∷ w) ws) ≡ true
 low-spaced [] h = refl
 low-spaced (w ∷ ws) h =
-    let parts = both (list_all is_low w) (list_all (list_all is_low) ws) h in
+    let parts = and_parts (list_all is_low w) (list_all (list_all is_low) ws) h in
     ap (list_all is_low) (flat_map-cons (λ (w : List ℕ). 32 ∷ w) w ws)
     ∙ low-append (32 ∷ w) (flat_map (λ w. 32 ∷ w) ws) parts.0 (low-spaced ws parts.1)
 

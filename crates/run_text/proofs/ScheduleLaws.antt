@@ -6,7 +6,7 @@ use Rattle.std.specs.List.{list_all, flat_map}
 use Rattle.std.specs.Fmt.{decimal}
 use Rattle.std.proofs.lemmas.List.Elements.{All-head, All-tail}
 use Rattle.std.proofs.lemmas.Bool.Decides.{nat_tests}
-use Rattle.byte_ends.specs.Text.{lines}
+use Rattle.byte_ends.specs.Text.{lines, words}
 use Rattle.unix_calls.specs.declared.Turn.{Turn}
 use Rattle.unix_calls.specs.declared.Turn.TheVariants.{Go, Push, Take, Auto}
 use Rattle.script_words.specs.declared.Kind.{Kind}
@@ -45,11 +45,11 @@ turn-read nodes (Take n m) small fit few = rw (node-decimal nodes n fit.0 small,
 turn-read nodes (Auto k) small fit few = rw (number-decimal k few) refl
 
 -- the numbers of a turn
-plain-turn : (nodes : ℕ) (t : Turn) → nodes ≤ 2 ^ 32 → HasNodes nodes t → turns_in t < 2 ^ 32 → are_plain (turn_words t) ≡ true
-plain-turn nodes (Go n) small fit few = rw (plain-decimal n (omega arith)) refl
-plain-turn nodes (Push n k) small fit few = let a = fit.0 in let b = fit.1 in rw (plain-decimal n (omega arith), plain-decimal k (omega arith)) refl
-plain-turn nodes (Take n m) small fit few = let a = fit.0 in let b = fit.1 in rw (plain-decimal n (omega arith), plain-decimal m (omega arith)) refl
-plain-turn nodes (Auto k) small fit few = rw (plain-decimal k (omega arith)) refl
+plain-turn : (t : Turn) → are_plain (turn_words t) ≡ true
+plain-turn (Go n) = rw (plain-decimal n) refl
+plain-turn (Push n k) = rw (plain-decimal n, plain-decimal k) refl
+plain-turn (Take n m) = rw (plain-decimal n, plain-decimal m) refl
+plain-turn (Auto k) = rw (plain-decimal k) refl
 
 low-turn : (nodes : ℕ) (t : Turn) → nodes ≤ 2 ^ 32 → HasNodes nodes t → turns_in t < 2 ^ 32 → list_all (list_all is_low) (turn_words t) ≡ true
 low-turn nodes (Go n) small fit few = rw (low-decimal n (omega arith)) refl
@@ -62,6 +62,10 @@ plain-word (Go n) = refl
 plain-word (Push n k) = refl
 plain-word (Take n m) = refl
 plain-word (Auto k) = refl
+
+-- the words of its line
+pub turn-row : (t : Turn) → words (turn_line t) ≡ turn_word t ∷ turn_words t
+turn-row t = words-spaced (turn_word t) (turn_words t) (plain-word t) (plain-turn t)
 
 low-word : (t : Turn) → list_all is_low (turn_word t) ≡ true
 low-word (Go n) = refl
@@ -86,8 +90,7 @@ unfolding read_turn
 line-read nodes before t small fit few =
     let some : turns_in t < 2 ^ 32 = omega arith in
     let utf8 = utf8-from_low (turn_line t) (low-append (turn_word t) (flat_map (λ w. 32 ∷ w) (turn_words t)) (low-word t) (low-spaced (turn_words t) (low-turn nodes t small fit some))) in
-    let row = words-spaced (turn_word t) (turn_words t) (plain-word t) (plain-turn nodes t small fit some) in
-    rw (utf8, row, said-word t (turn_words t), turn-read nodes t small fit some) (count-read before t few)
+    rw (utf8, turn-row t, said-word t (turn_words t), turn-read nodes t small fit some) (count-read before t few)
 
 lines-read : (nodes : ℕ) (s : SoFar) (ts : List Turn) → nodes ≤ 2 ^ 32 → All (HasNodes nodes) ts → s.count + turns_total ts ≤ MOST_TURNS
     → turns_of (fold (after_line nodes) (Ok s) (map turn_line ts)) ≡ Ok (s.turns ++ ts)
@@ -99,12 +102,13 @@ lines-read nodes s (t ∷ ts) small fit few =
     ∙ lines-read nodes next ts small (All-tail (HasNodes nodes) t ts fit) (omega arith)
     ∙ ap (λ (ts : List Turn). Ok ts) (append_assoc s.turns (t ∷ []) ts)
 
-turn-lines : (nodes : ℕ) (ts : List Turn) → nodes ≤ 2 ^ 32 → All (HasNodes nodes) ts → turns_total ts < 2 ^ 32 → AreLines turn_line ts
-turn-lines nodes [] small fit few = tt
-turn-lines nodes (t ∷ ts) small fit few = (
-  line-spaced (turn_word t) (turn_words t) (plain-word t) (plain-turn nodes t small (All-head (HasNodes nodes) t ts fit) (omega arith)),
-  turn-lines nodes ts small (All-tail (HasNodes nodes) t ts fit) (omega arith),
-)
+are-lines : (ts : List Turn) → AreLines turn_line ts
+are-lines [] = tt
+are-lines (t ∷ ts) = (line-spaced (turn_word t) (turn_words t) (plain-word t) (plain-turn t), are-lines ts)
+
+-- the lines of a schedule are those of its turns
+pub turn-lines : (ts : List Turn) → lines (schedule_text ts) ≡ map turn_line ts
+turn-lines ts = ap lines (sym (append-nil (schedule_text ts))) ∙ lines-written turn_line ts [] (are-lines ts) ∙ append-nil (map turn_line ts)
 
 -- a schedule that was written is read back as it was
 pub schedule-written : (nodes number : ℕ) (ts : List Turn) → nodes ≤ 2 ^ 32 → All (HasNodes nodes) ts → turns_total ts ≤ MOST_TURNS
@@ -112,6 +116,4 @@ pub schedule-written : (nodes number : ℕ) (ts : List Turn) → nodes ≤ 2 ^ 3
 unfolding schedule
 schedule-written nodes number ts small fit few =
     let start : SoFar = record { turns = []; count = 0; number = number } in
-    let written : lines (schedule_text ts) ≡ map turn_line ts =
-    ap lines (sym (append-nil (schedule_text ts))) ∙ lines-written turn_line ts [] (turn-lines nodes ts small fit (omega arith)) ∙ append-nil (map turn_line ts) in
-    ap (λ (ls : List (List ℕ)). turns_of (fold (after_line nodes) (Ok start) ls)) written ∙ lines-read nodes start ts small fit (omega arith)
+    ap (λ (ls : List (List ℕ)). turns_of (fold (after_line nodes) (Ok start) ls)) (turn-lines ts) ∙ lines-read nodes start ts small fit (omega arith)

@@ -8,6 +8,7 @@ pub mod Scripts
 pub mod Starts
 pub mod Parts
 pub mod Orders
+pub mod Verbs
 pub mod Variables
 pub mod Numbered
 pub mod Reading

@@ -13,7 +13,8 @@ use Rattle.script_reader.specs.Files.{begins_with, words_behind}
 use Rattle.script_laws.specs.Writable.{assigned, assigned_by}
 use Rattle.script_laws.specs.Grammar.{Naming, IsCalled, Spells, Lines, ends, skips, starts, begins, says, closes, Part, silent, opens}
 use Rattle.script_laws.proofs.Words.{skipped_script, skipped_start, skipped_fork, begins_so, verb_script, verb_start, script_word, start_word, fork_word}
-use Rattle.script_laws.proofs.Spoken.{verb_of, first_word}
+use Rattle.script_laws.proofs.Verbs.{verb_of}
+use Rattle.script_laws.proofs.Spoken.{first_word}
 use Rattle.script_laws.proofs.Told.{statements_of}
 
 -- words that have these numbers among names

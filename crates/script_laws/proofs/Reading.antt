@@ -14,7 +14,7 @@ use Rattle.unix_names.specs.Sets.{added}
 use Rattle.unix_names.proofs.SignalLaws.{signal_of-number_of, signal_named-word_of}
 use Rattle.unix_calls.specs.declared.Arg.{Arg}
 use Rattle.unix_calls.specs.declared.Arg.TheVariants.{Zero, One, Nobody, Own, Maker, Var}
-use Rattle.script_words.specs.Words.{Word, Row, ◌>>=◌, is_same, word_at, is_digit, is_lower, has_name_form, reserved, is_reserved, name, is_number, number, begins_with_digit, signal_number, signal, is_minus_digits, ended, node}
+use Rattle.script_words.specs.Words.{Word, Row, ◌>>=◌, is_same, is_digit, is_lower, has_name_form, reserved, is_reserved, name, is_number, number, begins_with_digit, signal_number, signal, is_minus_digits, node}
 use Rattle.script_reader.specs.Names.{Table, number_in}
 use Rattle.script_words.specs.Table.{act_named, changes_in}
 use Rattle.script_reader.specs.Statements.{own_variable, variable, group, process, target, wanted_group, selector, changes, act, signals}

@@ -22,7 +22,8 @@ use Rattle.list_laws.proofs.Finding.{same_number}
 use Rattle.script_laws.specs.Grammar.{Naming, IsCalled, Spells, SpellsStart, Lines, ends, skips, starts, begins, says, closes}
 use Rattle.script_laws.proofs.Words.{skipped_script, begins_so, verb_script, script_word}
 use Rattle.script_laws.proofs.Reading.{not_equal, name_read}
-use Rattle.script_laws.proofs.Spoken.{verb_of, HasNaming, HasStarts, statement_read, first_word, start_read, line_of}
+use Rattle.script_laws.proofs.Verbs.{verb_of}
+use Rattle.script_laws.proofs.Spoken.{HasNaming, HasStarts, statement_read, first_word, start_read, line_of}
 use Rattle.script_laws.proofs.Heads.{verb_head, script_head, start_head, end_head, row_read, row_place, verb_some}
 use Rattle.script_laws.proofs.Told.{row_tells, row_told, Means, more, little_first, statements_of, Stands}
 use Rattle.unix_calls.specs.declared.limits.TheConstants.{MOST_SCRIPTS, MOST_STATEMENTS, MOST_STARTS}

@@ -10,8 +10,6 @@ use Rattle.unix_calls.specs.declared.Statement.TheVariants as statement
 use Rattle.unix_calls.specs.Valid.{IsNode, IsStatement}
 use Rattle.script_reader.specs.declared.names.Names.{Names}
 use Rattle.script_reader.specs.declared.places.Place.{Place}
-use Rattle.script_words.specs.declared.table.Verb.{Verb}
-use Rattle.script_words.specs.declared.table.Verb.TheVariants as verb
 use Rattle.script_reader.specs.declared.lines.Item.TheVariants as item
 use Rattle.script_reader.specs.declared.lines.StartLine.{StartLine}
 use Rattle.script_words.specs.Words.{Word, Row, is_same, word_at, ended, node}
@@ -21,26 +19,8 @@ use Rattle.script_words.specs.Table.{verb_word}
 use Rattle.script_reader.specs.Lines.{is_numbered, start_variable, user, earlier_start, joined, start_words}
 use Rattle.list_laws.proofs.Finding.{same_number}
 use Rattle.script_laws.specs.Grammar.{Naming, IsCalled, IsSite, Spells, IsUser, Joins, SpellsStart}
+use Rattle.script_laws.proofs.Verbs.{verb_of}
 use Rattle.script_laws.proofs.Reading.{Agrees, name_read, number_read, node_read, signal_number_read, set_read, own_read, process_read, target_read, wanted_read, selector_read, act_read, changes_read}
-
--- the word that a statement begins with
-abbrev pub verb_of : Statement → Verb
-verb_of statement.Getpid = verb.Getpid
-verb_of statement.Getppid = verb.Getppid
-verb_of (statement.Getpgid arg) = verb.Getpgid
-verb_of (statement.Getsid arg) = verb.Getsid
-verb_of (statement.Fork var script at) = verb.Fork
-verb_of (statement.Exec script) = verb.Exec
-verb_of (statement.Exit n) = verb.Exit
-verb_of (statement.Wait true any minus arg stopped continued) = verb.Wait
-verb_of (statement.Wait false any minus arg stopped continued) = verb.Poll
-verb_of (statement.Kill minus arg sig) = verb.Kill
-verb_of (statement.Setpgid pid minus pgid) = verb.Setpgid
-verb_of statement.Setsid = verb.Setsid
-verb_of (statement.Action sig act) = verb.Action
-verb_of (statement.Mask set) = verb.Mask
-verb_of statement.Pending = verb.Pending
-verb_of (statement.Migrate node) = verb.Migrate
 
 -- the names of a file have the numbers of a naming
 pub record HasNaming (names : Names) (naming : Naming) : Type 0 where

@@ -1,7 +1,7 @@
 -- the starts of a part without a fault
 use Rattle.std.proofs.Common.{◌≡◌, ◌≢◌, ◌==◌, ◌⊎◌, inl, inr, ℕ, zero, suc, ◌+◌, ◌<◌, ◌≤◌, true, false, List, [], ◌∷◌, ◌++◌, length, length-append, take, refl, sym, ap, ◌∙◌, subst, arith, Option, Some, None, Result, Ok, All}
 use Rattle.std.specs.Prelude.{codes, slice_get, get_or, nat_le, nat_lt, IfSome}
-use Rattle.std.proofs.lemmas.Bool.{eqb-true, eqb-false, leb-true, ltb-true, and_parts}
+use Rattle.std.proofs.lemmas.Bool.{eqb-true, eqb-false, ltb-true}
 use Rattle.std.proofs.lemmas.List.{take-append-le, take_all}
 use Rattle.std.proofs.lemmas.List.Elements.{All-push}
 use Rattle.std.proofs.lemmas.Option.{slice_get-get_or}
@@ -26,7 +26,7 @@ use Rattle.script_laws.proofs.Statements.{IsSmall, number_fits, node_fits}
 use Rattle.script_laws.proofs.Tables.{AreBelow, IsListed}
 use Rattle.script_laws.proofs.Lines.{IsStartLine, Step, silent, opens, begins, ends, says, starts}
 use Rattle.script_laws.proofs.Walks.{starts_now, IsLittle, judged_next, Walk, nodes_stay}
-use Rattle.unix_calls.specs.declared.limits.TheConstants.{MOST_STARTS, MOST_PROCESSES, MOST_WORK}
+use Rattle.unix_calls.specs.declared.limits.TheConstants.{MOST_STARTS}
 
 -- ---- words
 pub numbered_here : (t : Table) (word : Word) (at : ℕ) → is_numbered t word at ≡ true → number_in t word ≡ Some at

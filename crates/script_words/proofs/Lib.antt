@@ -1,3 +1,4 @@
+pub mod Members
 pub mod Numbers
 mod ShortWords
 pub mod Spelled

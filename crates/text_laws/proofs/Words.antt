@@ -1,5 +1,6 @@
 -- words that are written are the words that are read
 use Rattle.std.proofs.Common.{◌≡◌, ℕ, ◌-◌, ◌<◌, nat_lt, Bool, true, false, cond, not, ◌==◌, ◌&&◌, List, [], ◌∷◌, ◌++◌, length, take, filter, refl, ap, sym, ◌∙◌, arith, append-nil}
+use Rattle.std.proofs.lemmas.Bool.{and_parts}
 use Rattle.std.specs.List.{All, list_all, slice_split, flat_map}
 use Rattle.std.proofs.lemmas.List.Elements.{All-nil, All-cons, All-append}
 use Rattle.std.proofs.lemmas.List.Splits.{slice_split_at, slice_split_none}
@@ -13,10 +14,6 @@ use Rattle.text_laws.proofs.Lines.{IsLine}
 abbrev pub Words : Type 0
 Words = List (List ℕ)
 
-both : (a b : Bool) → (a && b) ≡ true → (a ≡ true) × (b ≡ true)
-both true b h = (refl, h)
-both false b h = absurd (cc)
-
 visible-not_blank : (b : ℕ) → is_visible b ≡ true → is_blank b ≡ false
 visible-not_blank b h = grind (arith, nat_tests)
 
@@ -27,7 +24,7 @@ visible-not_newline b h = grind (arith, nat_tests)
 visible-fails : (p : ℕ → Bool) (word : List ℕ) → ((b : ℕ) → is_visible b ≡ true → p b ≡ false) → list_all is_visible word ≡ true → All (λ b. p b ≡ false) word
 visible-fails p [] low h = All-nil (λ b. p b ≡ false)
 visible-fails p (b ∷ bs) low h =
-    let parts = both (is_visible b) (list_all is_visible bs) h in
+    let parts = and_parts (is_visible b) (list_all is_visible bs) h in
     All-cons (λ b. p b ≡ false) b bs (low b parts.0) (visible-fails p bs low parts.1)
 
 -- a part that isn't empty is a word
@@ -36,12 +33,12 @@ kept [] parts h = absurd (omega arith)
 kept (b ∷ bs) parts h = grind (arith, nat_tests)
 
 some : (word : List ℕ) → is_plain word ≡ true → 0 < length word
-some word h = let parts = both (nat_lt 0 (length word)) (list_all is_visible word) h in grind (arith, nat_tests)
+some word h = let parts = and_parts (nat_lt 0 (length word)) (list_all is_visible word) h in grind (arith, nat_tests)
 
 -- the word before a blank
 pub words-blank : (word rest : List ℕ) → is_plain word ≡ true → words (word ++ 32 ∷ rest) ≡ word ∷ words rest
 words-blank word rest h =
-    let whole = visible-fails is_blank word visible-not_blank ((both (nat_lt 0 (length word)) (list_all is_visible word) h).1) in
+    let whole = visible-fails is_blank word visible-not_blank ((and_parts (nat_lt 0 (length word)) (list_all is_visible word) h).1) in
     ap (filter (λ w. not (length w == 0))) (slice_split_at is_blank word 32 rest whole refl)
     ∙ kept word (slice_split is_blank rest) (some word h)
 
@@ -52,7 +49,7 @@ words-front rest = refl
 -- a single word
 pub words-one : (word : List ℕ) → is_plain word ≡ true → words word ≡ word ∷ []
 words-one word h =
-    let whole = visible-fails is_blank word visible-not_blank ((both (nat_lt 0 (length word)) (list_all is_visible word) h).1) in
+    let whole = visible-fails is_blank word visible-not_blank ((and_parts (nat_lt 0 (length word)) (list_all is_visible word) h).1) in
     ap (filter (λ w. not (length w == 0))) (slice_split_none is_blank word whole)
     ∙ kept word [] (some word h)
 
@@ -60,7 +57,7 @@ words-one word h =
 pub words-spaced : (word : List ℕ) (ws : Words) → is_plain word ≡ true → are_plain ws ≡ true → words (word ++ flat_map (λ w. 32 ∷ w) ws) ≡ word ∷ ws
 words-spaced word [] first rest = ap words (append-nil word) ∙ words-one word first
 words-spaced word (w ∷ ws) first rest =
-    let parts = both (is_plain w) (are_plain ws) rest in
+    let parts = and_parts (is_plain w) (are_plain ws) rest in
     ap (λ (t : List ℕ). words (word ++ t)) (flat_map-cons (λ (w : List ℕ). 32 ∷ w) w ws)
     ∙ words-blank word (w ++ flat_map (λ w. 32 ∷ w) ws) first
     ∙ ap (λ (ws : Words). word ∷ ws) (words-spaced w ws parts.0 parts.1)
@@ -71,14 +68,14 @@ spaced-same vs ws hv hw e = sym (spaced-read vs hv) ∙ ap words e ∙ spaced-re
   spaced-read : (ws : Words) → are_plain ws ≡ true → words (flat_map (λ w. 32 ∷ w) ws) ≡ ws
   spaced-read [] h = refl
   spaced-read (w ∷ ws) h =
-      let parts = both (is_plain w) (are_plain ws) h in
+      let parts = and_parts (is_plain w) (are_plain ws) h in
       ap words (flat_map-cons (λ (w : List ℕ). 32 ∷ w) w ws) ∙ words-spaced w ws parts.0 parts.1
 
 spaced-fails : (p : ℕ → Bool) (ws : Words) → ((b : ℕ) → is_visible b ≡ true → p b ≡ false) → p 32 ≡ false → are_plain ws ≡ true → All (λ b. p b ≡ false) (flat_map (λ w. 32 ∷ w) ws)
 spaced-fails p [] low space h = All-nil (λ b. p b ≡ false)
 spaced-fails p (w ∷ ws) low space h =
-    let parts = both (is_plain w) (are_plain ws) h in
-    let word = visible-fails p w low ((both (nat_lt 0 (length w)) (list_all is_visible w) parts.0).1) in
+    let parts = and_parts (is_plain w) (are_plain ws) h in
+    let word = visible-fails p w low ((and_parts (nat_lt 0 (length w)) (list_all is_visible w) parts.0).1) in
     All-append (λ b. p b ≡ false) (32 ∷ w) (flat_map (λ w. 32 ∷ w) ws) (All-cons (λ b. p b ≡ false) 32 w space word) (spaced-fails p ws low space parts.1)
 
 -- whether a byte is a carriage return
@@ -102,7 +99,7 @@ return-kept (b ∷ bs) all = ap (λ t. cond t (take (length (b ∷ bs) - 1) (b �
 -- words written one space apart are a line
 pub line-spaced : (word : List ℕ) (ws : Words) → is_plain word ≡ true → are_plain ws ≡ true → IsLine (word ++ flat_map (λ w. 32 ∷ w) ws)
 line-spaced word ws first rest =
-    let bytes = (both (nat_lt 0 (length word)) (list_all is_visible word) first).1 in
+    let bytes = (and_parts (nat_lt 0 (length word)) (list_all is_visible word) first).1 in
     record {
       one = All-append (λ b. is_newline b ≡ false) word (flat_map (λ w. 32 ∷ w) ws) (visible-fails is_newline word visible-not_newline bytes) (spaced-fails is_newline ws visible-not_newline refl rest);
       kept = return-kept (word ++ flat_map (λ w. 32 ∷ w) ws) (All-append (λ b. is_return b ≡ false) word (flat_map (λ w. 32 ∷ w) ws) (visible-fails is_return word visible-not_return bytes) (spaced-fails is_return ws visible-not_return space-not_return rest));
