@@ -1,6 +1,5 @@
 -- a courier that goes on keeps its invariant and is nearer to its end
-use Rattle.std.proofs.Common.{◌≡◌, ◌⊎◌, inl, inr, ◌<◌, ◌≤◌, ◌+◌, ◌*◌, ◌==◌, ◌^◌, ℕ, zero, suc, Bool, true, false, List, [], ◌∷◌, ◌++◌, length, refl, sym, ap, ◌∙◌, subst, arith, Option, None, Some, if◌then◌else◌}
-use Rattle.std.specs.Prelude.{All}
+use Rattle.std.proofs.Common.{◌≡◌, ◌⊎◌, inl, inr, ◌<◌, ◌≤◌, ◌+◌, ◌*◌, ◌==◌, ◌^◌, ℕ, zero, suc, Bool, true, false, List, ◌++◌, length, refl, sym, ◌∙◌, subst, arith, Option, None, Some, if◌then◌else◌}
 use Rattle.unix_names.specs.declared.Name.{Name}
 use Rattle.unix_names.specs.Names.{home, pid_of}
 use Rattle.unix_calls.specs.declared.World.{World}
@@ -9,7 +8,7 @@ use Rattle.record_bag.specs.declared.Bag.{Bag}
 use Rattle.record_bag.specs.declared.Outcome.{Outcome}
 use Rattle.record_bag.specs.declared.Outcome.TheVariants.{Done, Need, Away}
 use Rattle.record_bag.specs.Bags.{is_held, with_held, held_names}
-use Rattle.record_bag.specs.Decisions.{Answered, IsLawful, IsLawfulFor, NamesLacking}
+use Rattle.record_bag.specs.Decisions.{IsLawful, IsLawfulFor}
 use Rattle.record_bag.proofs.HeldLaws.{is_held-put, is_held-more, any-held_put}
 use Rattle.record_table.specs.declared.Slot.{Slot}
 use Rattle.record_table.specs.declared.Slot.TheVariants.{Home, Out}
@@ -17,13 +16,13 @@ use Rattle.record_table.specs.declared.Line.{Line}
 use Rattle.record_table.specs.Slots.{slot_at}
 use Rattle.courier_core.specs.declared.Courier.{Courier}
 use Rattle.courier_core.specs.Wants.{is_name, lists, all_added}
-use Rattle.courier_core.specs.Couriers.{next_want, must_restart, HoldsWhatIsBelow}
+use Rattle.courier_core.specs.Couriers.{next_want, must_restart}
 use Rattle.courier_core.proofs.Order.{is_name-true}
-use Rattle.courier_core.proofs.Keeping.{lists-left, lists-either, all_added-old, all_added-new, all_added-from, name_cases, IsNext, next-is, taking-keeps, nothing-below, fresh-wanted, left_of, left-most, left-less, left-fewer}
+use Rattle.courier_core.proofs.Keeping.{lists-left, lists-either, all_added-old, all_added-new, all_added-from, name_cases, next-is, taking-keeps, nothing-below, fresh-wanted, left_of, left-most, left-fewer}
 use Rattle.node_state.specs.declared.State.{State}
 use Rattle.node_core.specs.declared.step.Step.{Step}
 use Rattle.node_core.specs.declared.step.Step.TheVariants.{Again, Over}
-use Rattle.node_core.specs.Advance.{Ask, Stepped, asked, empty_bag, wanted_at, wanted, restarted, needed_least, needed, stepped_by, stepped, is_stepped}
+use Rattle.node_core.specs.Advance.{Ask, Stepped, asked, empty_bag, wanted_at, wanted, restarted, needed_least, needed, stepped_by, stepped}
 use Rattle.node_core.specs.Conditions.{IsKept}
 use Rattle.node_core.proofs.Universe.{IsUniverse, all-listed}
 

@@ -1,5 +1,5 @@
 -- who sets out, and what the turn then is
-use Rattle.std.proofs.Common.{◌≡◌, ◌∙◌, ℕ, Bool, true, false, List, [], ◌∷◌, Option, None, Some, refl, sym, ap, subst, slice_index}
+use Rattle.std.proofs.Common.{◌≡◌, ◌∙◌, ℕ, List, [], ◌∷◌, Option, None, Some, sym, ap, subst}
 use Rattle.unix_names.specs.declared.NodeId.{NodeId}
 use Rattle.unix_calls.specs.declared.Entry.{Entry}
 use Rattle.unix_calls.specs.declared.Job.TheVariants as job
@@ -11,8 +11,7 @@ use Rattle.courier_core.specs.declared.Message.TheVariants as message
 use Rattle.node_state.specs.declared.Waiting.{Waiting}
 use Rattle.node_state.specs.declared.State.{State}
 use Rattle.node_state.specs.Ready.{first_movable, without_movable}
-use Rattle.node_state.specs.Wires.{one_taken}
-use Rattle.node_core.specs.Advance.{Ask, Advanced, is_advanced, advanced}
+use Rattle.node_core.specs.Advance.{Ask, is_advanced, advanced}
 use Rattle.node_core.specs.Turns.{courier_of, courier_with, first_of, going, moved_with, pushed, led, arriving, came}
 use Rattle.node_core.specs.Conditions.{Fit, CanGoOn, CanSetOut}
 use Rattle.node_core.specs.Views.{IsLed}

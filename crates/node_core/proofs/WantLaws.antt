@@ -1,5 +1,5 @@
 -- the ways in which a courier goes for a name
-use Rattle.std.proofs.Common.{◌≡◌, ◌≢◌, ◌==◌, ◌∙◌, ℕ, Bool, true, false, List, Option, None, Some, refl, sym, ap, if◌then◌else◌}
+use Rattle.std.proofs.Common.{◌≡◌, ◌≢◌, ◌==◌, ◌∙◌, Bool, true, false, List, Option, None, Some, refl, sym, ap, if◌then◌else◌}
 use Rattle.std.specs.Prelude.{is_none}
 use Rattle.std.proofs.lemmas.Bool.{eq-eqb, ne_eqb}
 use Rattle.unix_names.specs.declared.Name.{Name}
@@ -15,12 +15,11 @@ use Rattle.record_table.specs.declared.Taken.TheVariants as answer
 use Rattle.record_table.specs.Places.{nobody, joined, line_of, taken, is_out_slot}
 use Rattle.record_table.specs.Slots.{slot_at, with_slot, after_take, is_out}
 use Rattle.courier_core.specs.declared.Courier.{Courier}
-use Rattle.courier_core.specs.declared.Message.TheVariants as message
 use Rattle.courier_core.specs.Couriers.{next_want, must_restart}
 use Rattle.node_state.specs.declared.State.{State}
-use Rattle.node_state.specs.Wires.{posted}
-use Rattle.node_core.specs.declared.step.Step.{Step}
 use Rattle.node_core.specs.declared.step.Step.TheVariants.{Again, Over}
+use Rattle.node_core.specs.declared.step.Next.TheVariants as next
+use Rattle.node_core.specs.MethodAsking.{left_to_do}
 use Rattle.node_core.specs.Advance.{Stepped, is_stepped, wanted_at, wanted, restarted, needed, needed_least}
 
 at-home : (b : Bool) (x y z : Stepped) → b ≡ true → x ≡ y → x ≡ (if b then y else z)
@@ -61,16 +60,16 @@ waits-by s c x new (Home h) told is = cc
 waits-by s c x new (Out line) told is = ap (λ z. is_stepped (record s { slots = z }) (Over None)) is
 
 -- the record is out
-pub want-waits : (s : State) (c : Courier) (x : Name) (mid new : Slots Courier) → home x s.nodes ≡ s.id → answer.Out ≡ taken (slot_at s.slots x) → mid ≡ after_take s.slots x (slot_at s.slots x) → new ≡ with_slot mid x (Out (joined (line_of (slot_at mid x)) c)) →
-    is_stepped (record s { slots = new }) (Over None) ≡ wanted s c x
-want-waits s c x mid new at told same is =
+pub want-waits : (s : State) (c : Courier) (x : Name) (mid : Slots Courier) → home x s.nodes ≡ s.id → answer.Out ≡ taken (slot_at s.slots x) → mid ≡ after_take s.slots x (slot_at s.slots x) →
+    left_to_do (record s { slots = mid }) c (next.Wait x) ≡ wanted s c x
+want-waits s c x mid at told same =
     let stays = same ∙ taken-out-by s.slots x (slot_at s.slots x) told in
     at-home (home x s.nodes == s.id) _ (wanted_at s c x (slot_at s.slots x)) _ (eq-eqb (home x s.nodes) s.id at)
-    (waits-by s c x new (slot_at s.slots x) told (is ∙ ap (λ t. with_slot t x (Out (joined (line_of (slot_at t x)) c))) stays))
+    (waits-by s c x (with_slot mid x (Out (joined (line_of (slot_at mid x)) c))) (slot_at s.slots x) told (ap (λ t. with_slot t x (Out (joined (line_of (slot_at t x)) c))) stays))
 
 -- its home is another node
-pub want-rides : (s s' : State) (c : Courier) (x : Name) → home x s.nodes ≢ s.id → s' ≡ posted s (home x s.nodes) (message.Ride c) → is_stepped s' (Over None) ≡ wanted s c x
-want-rides s s' c x away is = elsewhere (home x s.nodes == s.id) _ (wanted_at s c x (slot_at s.slots x)) _ (ne_eqb (home x s.nodes) s.id away) (ap (λ z. is_stepped z (Over None)) is)
+pub want-rides : (s : State) (c : Courier) (x : Name) → home x s.nodes ≢ s.id → left_to_do s c (next.Ride (home x s.nodes)) ≡ wanted s c x
+want-rides s c x away = elsewhere (home x s.nodes == s.id) _ (wanted_at s c x (slot_at s.slots x)) _ (ne_eqb (home x s.nodes) s.id away) refl
 
 none-is : (o : Option Name) → is_none o ≡ true → o ≡ None
 none-is None e = refl

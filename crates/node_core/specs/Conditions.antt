@@ -1,5 +1,5 @@
 -- what a turn asks of its caller
-use Rattle.std.specs.Prelude.{ℕ, zero, suc, ◌≡◌, Option, None, Some}
+use Rattle.std.specs.Prelude.{ℕ, zero, suc, Option, None, Some}
 use Rattle.unix_names.specs.declared.Pid.{Pid}
 use Rattle.unix_calls.specs.declared.Job.{Job}
 use Rattle.unix_calls.specs.declared.World.{World}

@@ -1,5 +1,5 @@
 -- the state of a node before the first turn
-use Rattle.std.specs.Prelude.{ℕ, Bool, true, false, ◌+◌, ◌==◌, List, [], ◌∷◌, ◌++◌, map, filter, drop, replicate, slice_get, Option, None, Some, option_and_then, if◌then◌else◌}
+use Rattle.std.specs.Prelude.{ℕ, Bool, false, ◌+◌, ◌==◌, List, [], ◌∷◌, ◌++◌, map, filter, drop, replicate, slice_get, Option, None, Some, option_and_then, if◌then◌else◌}
 use Rattle.unix_names.specs.declared.Pid.{Pid}
 use Rattle.unix_names.specs.declared.Name.TheVariants as name
 use Rattle.unix_names.specs.declared.Life.TheVariants.{Runs}

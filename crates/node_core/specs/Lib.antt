@@ -1,4 +1,5 @@
 pub mod Advance
+pub mod MethodAsking
 pub mod Turns
 pub mod Conditions
 pub mod Views

@@ -1,9 +1,12 @@
 // What a courier does at a node.
-ghost use Rattle.std.specs.Prelude.{◌≡◌, ℕ, Some, IfOk, IfSome};
-ghost use Rattle.unix_calls.specs.Valid.{IsValid};
-ghost use Rattle.proc_image.specs.Images.{IsFit};
-ghost use Rattle.node_core.specs.Advance.{site_of, is_stepped, stepped, needed, restarted, wanted, advanced, is_advanced};
-ghost use Rattle.node_core.specs.Conditions.{AskFits, CanGoOn};
+ghost use Rattle.std.specs.Prelude.{◌≡◌, ℕ, true, None, Some, IfOk, IfSome, OnOk};
+ghost use Rattle.courier_core.specs.declared.Message.TheVariants.{Ride};
+ghost use Rattle.record_table.specs.Slots.{is_out};
+ghost use Rattle.node_state.specs.Wires.{posted};
+ghost use Rattle.node_core.specs.declared.step.Step.TheVariants.{Again};
+ghost use Rattle.node_core.specs.Advance.{site_of, is_stepped, needed, restarted, wanted, advanced, is_advanced};
+ghost use Rattle.node_core.specs.MethodAsking.{left_to_do, waiting_for, CanWaitNext};
+ghost use Rattle.node_core.specs.Conditions.{CanGoOn};
 
 use courier_core::{Courier, Message};
 use node_state::State;
@@ -14,11 +17,20 @@ use std::mem;
 use unix_calls::{Entry, World};
 use unix_names::{Name, NoMemory, NodeId, PIDS_PER_NODE, Pid};
 
-/// What a courier does next: it asks again, or it has left, waits or is done, with the line of the history, if there is one.
+/// What a courier does next, as contracts see it: it asks again, or it has left, waits or is done, with the line of the history, if there is one.
 #[derive(Debug, Drop)]
 pub enum Step {
     Again(Courier),
     Over(Option<Entry>),
+}
+
+/// What a courier does next, as long as it keeps its place: it asks again, rides to a node, waits for a record that is out, or lacks nothing.
+#[derive(Clone, Copy, Debug, PartialEq, Eq)]
+pub enum Next {
+    Again,
+    Ride(u32),
+    Wait(Name),
+    Over,
 }
 
 /// Where a decision at this node is made. None where the next process id is no number of 32 bits.
@@ -33,29 +45,27 @@ fn site_of(state: &State) -> Option<Site>
     })
 }
 
-/// A courier takes a record, waits for it, or rides to its home.
+/// A courier takes a record that is here; else it is told where to ride or that it has to wait.
 fn want(
     alloc: Global,
     state: &mut State,
-    mut courier: Courier,
+    courier: &mut Courier,
     name: Name,
-) -> Result<Step, NoMemory>
-    ensures { IfOk result (λ step. is_stepped state.new step ≡ wanted state.old courier name) }
+) -> Result<Next, NoMemory>
+    ensures next { IfOk result (λ next. left_to_do state.new courier.new next ≡ wanted state.old courier.old name) }
+    ensures out { IfOk result (λ next. CanWaitNext state.new next) }
 {
     let home = state.home_of(name);
     if home != state.id {
-        state.post(home, Message::Ride(courier))?;
-        return Ok(Step::Over(None));
+        return Ok(Next::Ride(home));
     }
-    match state.slots.take(alloc, name)? {
-        Taken::Here(held) => match courier.bag.put(name, held) {
-            Ok(()) => Ok(Step::Again(courier)),
+    match state.slots.take(alloc, name) {
+        Ok(Taken::Here(held)) => match courier.bag.put(name, held) {
+            Ok(()) => Ok(Next::Again),
             Err(_) => Err(NoMemory),
         },
-        Taken::Out => match state.slots.wait(name, courier) {
-            Ok(()) => Ok(Step::Over(None)),
-            Err(_) => Err(NoMemory),
-        },
+        Ok(Taken::Out) => Ok(Next::Wait(name)),
+        Err(refused) => Err(refused),
     }
 }
 
@@ -63,71 +73,55 @@ fn want(
 fn restart(
     alloc: Global,
     state: &mut State,
-    mut courier: Courier,
+    courier: &mut Courier,
     names: &[Name],
-) -> Result<Step, NoMemory>
-    ensures { IfOk result (λ step. is_stepped state.new step ≡ restarted state.old courier names.now) }
+) -> Result<(), NoMemory>
+    ensures { OnOk result (is_stepped state.new (Again courier.new) ≡ restarted state.old courier.old names.now) }
 {
     courier.remember(names)?;
     let bag = mem::replace(&mut courier.bag, Bag::new(alloc));
-    state.give_back_all(bag)?;
-    Ok(Step::Again(courier))
+    state.give_back_all(bag)
 }
 
 /// A courier whose job needs these names goes for the least that it lacks.
 fn gather(
     alloc: Global,
     state: &mut State,
-    courier: Courier,
+    courier: &mut Courier,
     names: &[Name],
-) -> Result<Step, NoMemory>
-    ensures { IfOk result (λ step. is_stepped state.new step ≡ needed state.old courier names.now) }
+) -> Result<Next, NoMemory>
+    ensures next { IfOk result (λ next. left_to_do state.new courier.new next ≡ needed state.old courier.old names.now) }
+    ensures out { IfOk result (λ next. CanWaitNext state.new next) }
 {
     let Some(name) = courier.least_lacking(names) else {
-        return Ok(Step::Over(None));
+        return Ok(Next::Over);
     };
     if courier.must_restart(name) {
-        restart(alloc, state, courier, names)
+        restart(alloc, state, courier, names)?;
+        Ok(Next::Again)
     } else {
         want(alloc, state, courier, name)
     }
 }
 
-/// One question of a courier, and what follows from its answer.
-fn ask_once<O: OpVector>(
-    ops: &O,
-    alloc: Global,
-    world: &World,
-    state: &mut State,
-    courier: Courier,
-) -> Result<Step, NoMemory>
-    requires valid { IsValid world.now }
-    requires image { IsFit world.now courier.image }
-    requires fits { AskFits (O.fits ops.now) state.old courier }
-    ensures { IfOk result (λ step. is_stepped state.new step ≡ stepped world.now (O.answer ops.now) state.old courier) }
+/// A courier rides to another node.
+fn ride(state: &mut State, to: u32, courier: Courier) -> Result<Option<Entry>, NoMemory>
+    ensures after { OnOk result (state.new ≡ posted state.old to (Ride courier)) }
+    ensures entry { IfOk result (λ entry. entry ≡ None) }
 {
-    let Some(site) = site_of(state) else {
-        return Err(NoMemory);
-    };
-    let mut courier = courier;
-    let outcome = ops.decide(
-        alloc,
-        courier.image.pid,
-        &courier.job,
-        &courier.image.own,
-        &mut courier.bag,
-        site,
-    )?;
-    match outcome {
-        Outcome::Done(done) => {
-            let Courier { image, bag, .. } = courier;
-            Ok(Step::Over(state.finish(alloc, world, image, bag, done)?))
-        }
-        Outcome::Away(node) => {
-            state.post(node.0, Message::Ride(courier))?;
-            Ok(Step::Over(None))
-        }
-        Outcome::Need(names) => gather(alloc, state, courier, names.as_slice()),
+    state.post(to, Message::Ride(courier))?;
+    Ok(None)
+}
+
+/// A courier joins the line of those who wait for a record.
+fn wait(state: &mut State, name: Name, courier: Courier) -> Result<Option<Entry>, NoMemory>
+    requires { is_out state.old.slots name ≡ true }
+    ensures after { OnOk result (state.new ≡ waiting_for state.old courier name) }
+    ensures entry { IfOk result (λ entry. entry ≡ None) }
+{
+    match state.slots.wait(name, courier) {
+        Ok(()) => Ok(None),
+        Err(_) => Err(NoMemory),
     }
 }
 
@@ -137,16 +131,38 @@ pub fn advance<O: OpVector>(
     alloc: Global,
     world: &World,
     state: &mut State,
-    courier: Courier,
+    mut courier: Courier,
 ) -> Result<Option<Entry>, NoMemory>
     requires { CanGoOn (O.fits ops.now) world.now (O.answer ops.now) state.old courier }
     ensures { IfOk result (λ entry. (n : ℕ) × (advanced world.now (O.answer ops.now) n state.old courier ≡ Some (is_advanced state.new entry))) }
 {
-    let mut c = courier;
     'asking: loop {
-        match ask_once(ops, alloc, world, state, c)? {
-            Step::Again(next) => c = next,
-            Step::Over(entry) => return Ok(entry),
+        let Some(site) = site_of(state) else {
+            return Err(NoMemory);
+        };
+        let outcome = ops.decide(
+            alloc,
+            courier.image.pid,
+            &courier.job,
+            &courier.image.own,
+            &mut courier.bag,
+            site,
+        );
+        match outcome {
+            Ok(Outcome::Done(done)) => {
+                let Courier { image, bag, .. } = courier;
+                return state.finish(alloc, world, image, bag, done);
+            }
+            Ok(Outcome::Away(node)) => return ride(state, node.0, courier),
+            Ok(Outcome::Need(names)) => {
+                match gather(alloc, state, &mut courier, names.as_slice())? {
+                    Next::Again => {}
+                    Next::Ride(to) => return ride(state, to, courier),
+                    Next::Wait(name) => return wait(state, name, courier),
+                    Next::Over => return Ok(None),
+                }
+            }
+            Err(refused) => return Err(refused),
         }
     }
 }

@@ -1,13 +1,11 @@
 -- the counts of a queue
-use Rattle.std.proofs.Common.{◌≡◌, ◌+◌, ◌-◌, ◌==◌, ◌<◌, ℕ, zero, suc, Bool, true, false, nat_lt, cond, List, [], ◌∷◌, ◌++◌, length, sym, ap, subst, ◌∙◌, refl, arith, append_assoc, Result, Ok, Err, OnOk, OnErr, Some, None, Option, ◌||◌}
+use Rattle.std.proofs.Common.{◌≡◌, ◌+◌, ◌-◌, ◌==◌, ℕ, Bool, true, false, nat_lt, cond, List, [], ◌∷◌, ◌++◌, length, sym, ap, subst, ◌∙◌, refl, arith, append_assoc, Result, Ok, Err, OnOk, OnErr, Some, None, Option, ◌||◌}
 use Rattle.std.specs.Prelude.{filter, unwrap_or}
-use Rattle.std.specs.List.{list_any}
 use Rattle.std.proofs.lemmas.Bool.{eqb-true, eqb-false, lt-ltb}
 use Rattle.unix_names.specs.declared.Pid.{Pid}
 use Rattle.ordered_table.specs.declared.Entry.{Entry}
 use Rattle.ordered_table.specs.Entries.{value_at, with_value}
 use Rattle.ordered_table.proofs.MapLaws.{put-same, put-other}
-use Rattle.proc_image.specs.declared.Image.{Image}
 use Rattle.node_state.specs.declared.ready.Waiting.{Waiting}
 use Rattle.node_state.specs.declared.ready.Waiting.TheVariants as waiting
 use Rattle.node_state.specs.Ready.{is_image_of, has_image}

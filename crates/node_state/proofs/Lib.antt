@@ -1,3 +1,4 @@
 pub mod CountLaws
 pub mod QueueLaws
 pub mod WireLaws
+pub mod ReturnLaws

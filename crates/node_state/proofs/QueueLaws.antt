@@ -1,5 +1,5 @@
 -- the first image that is not stopped, behind those whom a push passes over
-use Rattle.std.proofs.Common.{◌≡◌, ◌∙◌, ◌+◌, ℕ, suc, Bool, true, false, not, cond, List, [], ◌∷◌, ◌++◌, length, Option, None, Some, is_some, ◌-◌, if◌then◌else◌, refl, sym, ap, subst, arith}
+use Rattle.std.proofs.Common.{◌≡◌, ◌∙◌, ◌+◌, ℕ, suc, Bool, true, false, not, cond, List, [], ◌∷◌, ◌++◌, length, Option, None, Some, is_some, ◌-◌, if◌then◌else◌, refl, sym, ap, arith}
 use Rattle.std.specs.Prelude.{filter}
 use Rattle.proc_image.specs.declared.Image.{Image}
 use Rattle.node_state.specs.declared.ready.Waiting.{Waiting}

@@ -1,5 +1,5 @@
 -- where images stand: in the ready queue, or parked
-use Rattle.std.specs.Prelude.{Bool, true, false, List, [], ◌∷◌, ◌++◌, Option, None, Some, if◌then◌else◌}
+use Rattle.std.specs.Prelude.{Bool, true, false, [], ◌∷◌, ◌++◌, Option, None, Some, if◌then◌else◌}
 use Rattle.unix_names.specs.declared.Pid.{Pid}
 use Rattle.unix_calls.specs.declared.Phase.{Phase}
 use Rattle.unix_calls.specs.declared.Phase.TheVariants as phases

@@ -1,5 +1,5 @@
 -- what a node sends
-use Rattle.std.specs.Prelude.{ℕ, ◌+◌, ◌==◌, slice_index, slice_set, List, [], ◌∷◌, ◌++◌}
+use Rattle.std.specs.Prelude.{ℕ, ◌+◌, slice_index, slice_set, [], ◌∷◌, ◌++◌}
 use Rattle.courier_core.specs.declared.Message.{Message}
 use Rattle.node_state.specs.declared.state.State.{State}
 

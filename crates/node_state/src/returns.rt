@@ -1,16 +1,21 @@
 // How records come back to their homes, and how news reaches processes.
-ghost use Rattle.std.specs.Prelude.{◌≡◌, OnOk};
+ghost use Rattle.std.specs.Prelude.{◌≡◌, map, OnOk};
 ghost use Rattle.unix_names.specs.Names.{home};
-ghost use Rattle.record_bag.specs.Bags.{all_held};
+ghost use Rattle.record_bag.specs.declared.Held.TheVariants.{V, G};
+ghost use Rattle.record_bag.specs.Bags.{all_held, named_vproc, named_group};
+ghost use Rattle.record_table.specs.Slots.{process, group_name};
 ghost use Rattle.record_table.specs.Places.{poked_at};
 ghost use Rattle.node_state.specs.Returns.{pid_named};
 
 use crate::ready::Waiting;
 use crate::state::State;
 use courier_core::{Courier, Message};
+use group_record::Group;
+use ordered_table::{Entry, Table};
 use record_bag::{Bag, Held};
 use record_table::{Nudged, PutBack};
 use unix_names::{Name, NoMemory, Pid, home_of, is_living};
+use vproc_record::Vproc;
 
 fn pid_named(name: Name) -> Pid
     ensures { result ≡ pid_named name }
@@ -18,6 +23,16 @@ fn pid_named(name: Name) -> Pid
     match name {
         Name::V(pid) => pid,
         Name::G(pid) => pid,
+    }
+}
+
+/// Where a process with this record is to be told: at its place, unless it has ended.
+fn place_of(vproc: &Option<Vproc>) -> Nudged
+    ensures { result ≡ poked_at (V vproc.now) }
+{
+    match vproc {
+        Some(vproc) if is_living(vproc.life) => Nudged::At(vproc.loc),
+        _ => Nudged::Nobody,
     }
 }
 
@@ -84,26 +99,80 @@ impl State {
         }
     }
 
-    /// Returns a record to its home.
-    pub fn give_back(&mut self, name: Name, held: Held) -> Result<(), NoMemory>
-        ensures { OnOk result (self.new ≡ given_back self.old name held) }
+    // A process's record comes back to its home, which is here.
+    fn lay_vproc(&mut self, pid: Pid, vproc: Option<Vproc>) -> Result<(), NoMemory>
+        ensures { OnOk result (self.new ≡ laid self.old (process pid) (V vproc)) }
     {
-        let home = self.home_of(name);
+        if self.slots.is_awaited(Name::V(pid)) {
+            return self.lay(Name::V(pid), Held::V(vproc));
+        }
+        let target = place_of(&vproc);
+        if self.slots.lay_vproc(pid, vproc)? {
+            return self.call(pid, target);
+        }
+        Ok(())
+    }
+
+    // A group's record comes back to its home, which is here.
+    fn lay_group(&mut self, leader: Pid, group: Option<Group>) -> Result<(), NoMemory>
+        ensures { OnOk result (self.new ≡ laid self.old (group_name leader) (G group)) }
+    {
+        if self.slots.is_awaited(Name::G(leader)) {
+            return self.lay(Name::G(leader), Held::G(group));
+        }
+        self.slots.lay_group(leader, group)
+    }
+
+    fn give_back_vproc(&mut self, pid: Pid, vproc: Option<Vproc>) -> Result<(), NoMemory>
+        ensures { OnOk result (self.new ≡ given_back self.old (process pid) (V vproc)) }
+    {
+        let home = self.home_of(Name::V(pid));
         if home == self.id {
-            self.lay(name, held)
+            self.lay_vproc(pid, vproc)
         } else {
-            self.post(home, Message::Put(name, held))
+            self.post(home, Message::Put(Name::V(pid), Held::V(vproc)))
         }
     }
 
-    /// Returns all that a courier holds, in order of name.
-    pub fn give_back_all(&mut self, mut bag: Bag) -> Result<(), NoMemory>
-        ensures { OnOk result (self.new ≡ all_given_back self.old (all_held bag)) }
+    fn give_back_group(&mut self, leader: Pid, group: Option<Group>) -> Result<(), NoMemory>
+        ensures { OnOk result (self.new ≡ given_back self.old (group_name leader) (G group)) }
     {
-        while let Some((name, held)) = bag.take_least() {
-            self.give_back(name, held)?;
+        let home = self.home_of(Name::G(leader));
+        if home == self.id {
+            self.lay_group(leader, group)
+        } else {
+            self.post(home, Message::Put(Name::G(leader), Held::G(group)))
+        }
+    }
+
+    // Returns the records of processes, the least id first.
+    fn give_back_vprocs(&mut self, mut vprocs: Table<Option<Vproc>>) -> Result<(), NoMemory>
+        ensures { OnOk result (self.new ≡ all_given_back self.old (map named_vproc vprocs)) }
+    {
+        while let Some(Entry { pid, value }) = vprocs.pop_first() {
+            self.give_back_vproc(pid, value)?;
         }
         Ok(())
+    }
+
+    // Returns the records of groups, the least id first.
+    fn give_back_groups(&mut self, mut groups: Table<Option<Group>>) -> Result<(), NoMemory>
+        ensures { OnOk result (self.new ≡ all_given_back self.old (map named_group groups)) }
+    {
+        while let Some(Entry { pid, value }) = groups.pop_first() {
+            self.give_back_group(pid, value)?;
+        }
+        Ok(())
+    }
+
+    #[tactic(auto, using(crate::proofs::ReturnLaws::given_back_in_turn))]
+    /// Returns all that a courier holds, in order of name.
+    pub fn give_back_all(&mut self, bag: Bag) -> Result<(), NoMemory>
+        ensures { OnOk result (self.new ≡ all_given_back self.old (all_held bag)) }
+    {
+        let Bag { vprocs, groups } = bag;
+        self.give_back_vprocs(vprocs)?;
+        self.give_back_groups(groups)
     }
 
     /// News for a process reaches its record's home, which is here.

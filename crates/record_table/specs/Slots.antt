@@ -5,6 +5,7 @@ use Rattle.unix_names.specs.declared.Name.{Name}
 use Rattle.unix_names.specs.declared.Name.TheVariants as name
 use Rattle.ordered_table.specs.Entries.{with_value, has_value}
 use Rattle.vproc_record.specs.declared.Vproc.{Vproc}
+use Rattle.group_record.specs.declared.Group.{Group}
 use Rattle.record_bag.specs.declared.Held.{Held}
 use Rattle.record_bag.specs.declared.Held.TheVariants as held
 use Rattle.record_table.specs.declared.slot.Slot.{Slot}
@@ -30,6 +31,14 @@ process p = name.V p
 -- the record of a process, present or absent, at home
 abbrev pub resting : {C : Type 0} → Option Vproc → Slot Held (Line C)
 resting v = Home (held.V v)
+
+-- the name of a group
+abbrev pub group_name : Pid → Name
+group_name g = name.G g
+
+-- the record of a group, present or absent, at home
+abbrev pub resting_group : {C : Type 0} → Option Group → Slot Held (Line C)
+resting_group g = Home (held.G g)
 
 -- whether a name was ever seen
 abbrev pub is_known : {C : Type 0} → Slots C → Name → Bool

@@ -6,6 +6,7 @@ use crate::slot::{
     GroupSlot, Line, NamedSlot, Slot, VprocSlot, in_groups, in_vprocs, leave, nobody, of_group,
     of_vproc, swap_in,
 };
+use group_record::Group;
 use ordered_table::{Queue, Table};
 use record_bag::Held;
 use std::alloc::Global;
@@ -43,7 +44,7 @@ pub struct Slots<C> {
 
 impl<C: Drop> Slots<C> {
     ghost use Rattle.record_table.specs.Places.{nobody, line_of, taken, left, put_back, given, joined, nudged, marked};
-    ghost use Rattle.record_table.specs.Slots.{slot_at, with_slot, process, resting, is_known, is_out, is_awaited, after_take, after_nudge, SameElsewhere};
+    ghost use Rattle.record_table.specs.Slots.{slot_at, with_slot, process, resting, group_name, resting_group, is_known, is_out, is_awaited, after_take, after_nudge, SameElsewhere};
     ghost use Rattle.record_table.specs.declared.slot.Slot.TheVariants.{Home, Out};
 
     /// Slots in which every record is at home and absent. It takes no memory.
@@ -85,6 +86,26 @@ impl<C: Drop> Slots<C> {
         }
         let held = self.take_rested(alloc, name)?;
         Ok(Taken::Here(held))
+    }
+
+    /// Takes the record of a process that rests at its home; it is then out, without a mark and with nobody in line.
+    pub fn take_vproc(&mut self, alloc: Global, pid: Pid) -> Result<Option<Vproc>, NoMemory>
+        requires { is_out self.old (process pid) ≡ false }
+        ensures before { IfOk result (λ vproc. slot_at self.old (process pid) ≡ resting vproc) }
+        ensures ok { OnOk result (self.new ≡ with_slot self.old (process pid) (Out nobody)) }
+        ensures err { OnErr result (self.new ≡ self.old) }
+    {
+        leave(&mut self.vprocs, pid, nobody(alloc))
+    }
+
+    /// Takes the record of a group that rests at its home; it is then out, with nobody in line.
+    pub fn take_group(&mut self, alloc: Global, leader: Pid) -> Result<Option<Group>, NoMemory>
+        requires { is_out self.old (group_name leader) ≡ false }
+        ensures before { IfOk result (λ group. slot_at self.old (group_name leader) ≡ resting_group group) }
+        ensures ok { OnOk result (self.new ≡ with_slot self.old (group_name leader) (Out nobody)) }
+        ensures err { OnErr result (self.new ≡ self.old) }
+    {
+        leave(&mut self.groups, leader, Queue::new(alloc))
     }
 
     /// Brings a record back: to the first in line, and then it stays out; or it rests without a mark. A record of the other kind counts as absent. It takes no memory.
@@ -148,16 +169,37 @@ impl<C: Drop> Slots<C> {
         ensures err { OnErr result (self.new ≡ self.old) }
     {
         match name {
-            Name::V(pid) => {
-                match swap_in(&mut self.vprocs, pid, Slot::Home(held.into_vproc()))? {
-                    Slot::Out(line) => Ok(line.is_marked),
-                    Slot::Home(_) => Ok(false),
-                }
-            }
+            Name::V(pid) => self.lay_vproc(pid, held.into_vproc()),
             Name::G(pid) => {
-                swap_in(&mut self.groups, pid, Slot::Home(held.into_group()))?;
+                self.lay_group(pid, held.into_group())?;
                 Ok(false)
             }
+        }
+    }
+
+    /// Lays the record of a process for which nobody waits at its home, and tells whether the process was nudged meanwhile. Where it is out no memory is taken.
+    pub fn lay_vproc(&mut self, pid: Pid, vproc: Option<Vproc>) -> Result<bool, NoMemory>
+        requires { is_awaited self.old (process pid) ≡ false }
+        ensures nudged { IfOk result (λ nudged. nudged ≡ (line_of (slot_at self.old (process pid))).is_marked) }
+        ensures after { OnOk result (self.new ≡ with_slot self.old (process pid) (resting vproc)) }
+        ensures err { OnErr result (self.new ≡ self.old) }
+    {
+        match self.vprocs.put(pid, Slot::Home(vproc)) {
+            Ok(Some(Slot::Out(line))) => Ok(line.is_marked),
+            Ok(_) => Ok(false),
+            Err(_) => Err(NoMemory),
+        }
+    }
+
+    /// Lays the record of a group for which nobody waits at its home. Where it is out no memory is taken.
+    pub fn lay_group(&mut self, leader: Pid, group: Option<Group>) -> Result<(), NoMemory>
+        requires { is_awaited self.old (group_name leader) ≡ false }
+        ensures after { OnOk result (self.new ≡ with_slot self.old (group_name leader) (resting_group group)) }
+        ensures err { OnErr result (self.new ≡ self.old) }
+    {
+        match self.groups.put(leader, Slot::Home(group)) {
+            Ok(_) => Ok(()),
+            Err(_) => Err(NoMemory),
         }
     }
 
@@ -227,8 +269,8 @@ impl<C: Drop> Slots<C> {
         ensures err { OnErr result (self.new ≡ self.old) }
     {
         match name {
-            Name::V(pid) => Ok(Held::V(leave(&mut self.vprocs, pid, nobody(alloc))?)),
-            Name::G(pid) => Ok(Held::G(leave(&mut self.groups, pid, Queue::new(alloc))?)),
+            Name::V(pid) => Ok(Held::V(self.take_vproc(alloc, pid)?)),
+            Name::G(pid) => Ok(Held::G(self.take_group(alloc, pid)?)),
         }
     }
 

@@ -1,9 +1,8 @@
-use Rattle.std.proofs.Common.{◌≡◌, ◌++◌, ◌∷◌, [], ap, sym, subst, ◌∙◌, false, true, None, refl}
+use Rattle.std.proofs.Common.{◌≡◌, ◌++◌, ◌∷◌, ap, sym, ◌∙◌, false, true, refl}
 use Rattle.node_state.specs.declared.ready.Waiting.TheVariants as waiting
 use Rattle.node_state.specs.Ready.{is_stopped_phase, first_movable, without_movable}
-use Rattle.node_state.specs.Counts.{IsCounted}
-use Rattle.node_state.proofs.CountLaws.{passed-counted, lost-counted, IsCounted-less}
-use Rattle.node_state.proofs.QueueLaws.{image-leaves, others-stay, passes, stopped-more, courier-more, nobody-leaves, nobody-moves}
+use Rattle.node_state.proofs.CountLaws.{passed-counted, lost-counted}
+use Rattle.node_state.proofs.QueueLaws.{image-leaves, others-stay, passes, stopped-more, courier-more, nobody-leaves}
 use Rattle.node_state.proofs.ready.take_movable.Goals as goal
 
 pub returns-then-not-is_stopped-clause-counted : goal.returns-then-not-is_stopped-clause-counted
