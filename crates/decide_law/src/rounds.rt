@@ -13,7 +13,7 @@ ghost use Rattle.decide_law.specs.Base.{HasBase};
 ghost use Rattle.decide_law.specs.Effects.{folded, emptied, settled_in, trimmed_in, done_by, quiet};
 
 use group_record::Group;
-use record_bag::{Bag, Decided, Outcome};
+use record_bag::{Bag, Decided, Outcome, record_mut};
 use sig_stream::fold_all;
 use signal_state::Own;
 use std::alloc::Global;
@@ -53,17 +53,14 @@ pub fn settle_in(own: &mut Own, pid: Pid, bag: &mut Bag) -> Pid
     ensures held { IsSome (group_at bag.new result) }
     ensures within { (g : TheGroup) → group_at bag.new result ≡ Some (Some g) → All (λ m. m.from ≤ length g.log) g.members }
 {
-    both_rise(bag);
-    let Some(mut v) = bag.vprocs.replace(pid, None) else {
+    let Some(v) = record_mut(&mut bag.vprocs, pid) else {
         unreachable!();
     };
     let id = v.group;
-    let Some(mut g) = bag.groups.replace(id, None) else {
+    let Some(g) = record_mut(&mut bag.groups, id) else {
         unreachable!();
     };
-    take_in(own, &mut v, &mut g);
-    bag.groups.replace(id, Some(g));
-    bag.vprocs.replace(pid, Some(v));
+    take_in(own, v, g);
     id
 }
 
@@ -73,10 +70,8 @@ pub fn trim_in(id: Pid, bag: &mut Bag)
     requires within { (g : TheGroup) → group_at bag.old id ≡ Some (Some g) → All (λ m. m.from ≤ length g.log) g.members }
     ensures { bag.new ≡ trimmed_in id bag.old }
 {
-    both_rise(bag);
-    if let Some(mut g) = bag.groups.replace(id, None) {
+    if let Some(g) = record_mut(&mut bag.groups, id) {
         g.trim();
-        bag.groups.replace(id, Some(g));
     }
 }
 
