@@ -10,7 +10,7 @@ returns-clause-bag c = λ u here.
     let base = c.requires.base in
     let same = some_same _ _ (c.in-Some.ensures.value ∙ ap present base.vproc_is) in
     settled_lent c.args.bag.now c.args.pid u c.in-Some.v.now _ c.in-Some-record_mut.g.now _ c.record_mut.ensures.rising c.record_mut-2.ensures.rising c.in-Some.ensures.value c.in-Some-record_mut.ensures.value (ap (λ (v : Vproc). v.pid) same ∙ base.pid)
-    c.take_in.ensures.vproc c.take_in.ensures.group here
+    c.fold_and_settle.ensures.process c.fold_and_settle.ensures.group here
 
 pub returns-clause-held : goal.returns-clause-held
 returns-clause-held c =
