@@ -5,7 +5,7 @@ use Rattle.std.specs.List.{list_any}
 use Rattle.std.specs.Option.{option_map}
 use Rattle.std.proofs.lemmas.Bool.{eqb-true, eqb-false}
 use Rattle.std.proofs.lemmas.List.Elements.{All-weaker, All-head, All-tail}
-use Rattle.list_laws.specs.Keyed.{at, option_filter}
+use Rattle.list_laws.specs.Keyed.{at}
 use Rattle.list_laws.proofs.Filters.{some_same}
 use Rattle.unix_names.specs.declared.Pid.{Pid}
 use Rattle.unix_names.specs.declared.NodeId.{NodeId}
@@ -31,12 +31,11 @@ use Rattle.sig_stream.specs.Streams.{stream}
 use Rattle.record_bag.specs.declared.bag.Bag.{Bag}
 use Rattle.record_bag.specs.declared.vector.Site.{Site}
 use Rattle.process_table.specs.declared.Row.{Row}
-use Rattle.process_table.specs.Rows.{row_of, is_parent, in_group, is_stopped}
+use Rattle.process_table.specs.Rows.{row_of, in_group, is_stopped}
 use Rattle.process_table.specs.Changes.{receives}
 use Rattle.decide_law.specs.Agrees.{vproc_at, group_at, IsRecordOf, VprocAgrees, IsGroupOf, GroupAgrees}
-use Rattle.decide_law.specs.Wakes.{report_in, WakesOthers}
 use Rattle.decide_law.specs.Law.{Settled, next, sent_to, IsLegalOf, IsAnswerTo, IsNoBirth, IsStep}
-use Rattle.decide_law.specs.Places.{place_after, is_placed, destination}
+use Rattle.decide_law.specs.Places.{place_after, is_placed}
 use Rattle.decide_law.specs.Effects.{only, same, changed, told_to, append, decided_by, written}
 use Rattle.decide_law.proofs.Records.{pid_same, row_pid, only_keeps}
 use Rattle.kernel_rules.specs.Events.{StaysStopped}

@@ -1,5 +1,5 @@
 -- numbers of a call that fit in 32 bits can be names
-use Rattle.std.proofs.Common.{◌≡◌, ◌<◌, ◌^◌, ℕ, suc, ℤ, pos, negsuc, le→leb, List, refl, arith, inr, Option}
+use Rattle.std.proofs.Common.{◌<◌, ◌^◌, ℕ, suc, ℤ, pos, negsuc, le→leb, List, refl, arith, inr, Option}
 use Rattle.unix_names.specs.declared.Pid.{Pid}
 use Rattle.unix_names.specs.declared.NodeId.{NodeId}
 use Rattle.unix_calls.specs.declared.Call.{Call}

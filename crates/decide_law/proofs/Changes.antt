@@ -1,30 +1,18 @@
 -- what is found after a change of all that is held
-use Rattle.std.proofs.Common.{◌≡◌, ◌≢◌, ◌==◌, ◌≤◌, ◌++◌, ℕ, Bool, true, false, List, length, drop, refl, sym, ap, ◌∙◌, subst, Option, None, Some}
-use Rattle.std.specs.Prelude.{is_some}
+use Rattle.std.proofs.Common.{◌≡◌, ◌≢◌, List, refl, sym, ap, ◌∙◌, subst, Option, None, Some}
 use Rattle.std.specs.Option.{option_map}
-use Rattle.std.proofs.lemmas.Bool.{eqb-true, eqb-false}
 use Rattle.list_laws.proofs.Filters.{some_same}
-use Rattle.list_laws.proofs.Finding.{same_number}
 use Rattle.unix_names.specs.declared.Pid.{Pid}
-use Rattle.unix_names.specs.declared.Signal.{Signal}
-use Rattle.unix_calls.specs.declared.Job.{Job}
-use Rattle.signal_state.specs.declared.Own.{Own}
-use Rattle.signal_state.specs.Sig.{generated_all}
 use Rattle.vproc_record.specs.declared.Vproc.{Vproc}
 use Rattle.group_record.specs.declared.Group.{Group}
-use Rattle.group_record.specs.Groups.{settled, trimmed}
-use Rattle.group_record.specs.Log.{log_part}
-use Rattle.group_record.proofs.LogLaws.{log_part-trimmed, log_part-settled_own, log_part-settled_other}
-use Rattle.sig_stream.specs.Streams.{stream}
 use Rattle.ordered_table.proofs.MapLaws.{with_each-at, pids-with_each}
 use Rattle.record_bag.specs.declared.bag.Bag.{Bag}
-use Rattle.record_bag.specs.declared.vector.Site.{Site}
 use Rattle.process_table.specs.declared.Row.{Row}
-use Rattle.process_table.specs.Rows.{row_of, in_group}
-use Rattle.decide_law.specs.Agrees.{vproc_at, group_at, IsRecordOf, VprocAgrees, IsGroupOf, GroupAgrees, Agrees}
-use Rattle.decide_law.specs.Law.{IsOwn, Based, Settled, sent_to, SameNames, Grows, IsBorn, BirthIs, IsStep}
-use Rattle.decide_law.specs.Effects.{only, changed, emptied, settled_for, folded, settled_in, trimmed_in, Effect, decided_by, written, left_by}
-use Rattle.decide_law.proofs.Records.{row_pid, only_same, only_other, member_has, trimmed_agrees, settled_agrees, emptied_agrees, only_keeps}
+use Rattle.process_table.specs.Rows.{row_of}
+use Rattle.decide_law.specs.Agrees.{vproc_at, group_at, VprocAgrees, GroupAgrees, Agrees}
+use Rattle.decide_law.specs.Law.{SameNames}
+use Rattle.decide_law.specs.Effects.{only, changed}
+use Rattle.decide_law.proofs.Records.{only_same, only_other}
 
 pub vproc_changed : (f : Pid → Option Vproc → Option Vproc) (g : Pid → Option Group → Option Group) (bag : Bag) (q : Pid) → vproc_at (changed f g bag) q ≡ option_map (f q) (vproc_at bag q)
 vproc_changed f g bag q = with_each-at f bag.vprocs q

@@ -1,5 +1,5 @@
 -- what the code of a decision is called on, told by a question that fits
-use Rattle.std.proofs.Common.{◌≡◌, ℕ, Bool, true, cond, List, sym, ap, ◌∙◌, Option, None, Some}
+use Rattle.std.proofs.Common.{◌≡◌, cond, List, sym, ap, ◌∙◌, None, Some}
 use Rattle.std.specs.Option.{option_map}
 use Rattle.list_laws.specs.Keyed.{option_filter}
 use Rattle.unix_names.specs.declared.Pid.{Pid}

@@ -1,20 +1,8 @@
 -- a look at which nothing happens
-use Rattle.std.proofs.Common.{◌≡◌, ◌==◌, ◌&&◌, Bool, true, false, cond, not, List, [], refl, sym, ap, ◌∙◌, subst, Option, None, Some}
-use Rattle.std.specs.Prelude.{map, is_some}
-use Rattle.std.proofs.lemmas.Bool.{eq-eqb}
-use Rattle.list_laws.proofs.Filters.{some_same, map-id}
+use Rattle.std.proofs.Common.{◌≡◌, true, List, refl, None}
 use Rattle.unix_names.specs.declared.Pid.{Pid}
-use Rattle.unix_names.specs.declared.NodeId.{NodeId}
-use Rattle.unix_calls.specs.declared.Entry.{Entry}
-use Rattle.unix_calls.specs.declared.Entry.TheVariants.{Called, Happened}
-use Rattle.unix_calls.specs.declared.Call.TheVariants.{Migrate}
-use Rattle.unix_calls.specs.declared.Reply.TheVariants.{Fine}
-use Rattle.unix_calls.specs.declared.Event.TheVariants.{Moved}
-use Rattle.unix_calls.specs.declared.Job.{Job}
-use Rattle.unix_calls.specs.declared.Job.TheVariants.{Ask, Look, Push}
+use Rattle.unix_calls.specs.declared.Job.TheVariants.{Look}
 use Rattle.unix_calls.specs.declared.Phase.TheVariants as phase
-use Rattle.signal_state.specs.Signals.{Signals}
-use Rattle.signal_state.specs.Sig.{deliverable}
 use Rattle.signal_state.specs.declared.Own.{Own}
 use Rattle.vproc_record.specs.declared.Vproc.{Vproc}
 use Rattle.group_record.specs.declared.Group.{Group}
@@ -23,18 +11,12 @@ use Rattle.record_bag.specs.declared.bag.Bag.{Bag}
 use Rattle.record_bag.specs.declared.vector.Site.{Site}
 use Rattle.process_table.specs.declared.Row.{Row}
 use Rattle.process_table.specs.Rows.{is_stopped}
-use Rattle.kernel_rules.specs.Events.{can_call}
-use Rattle.kernel_model.specs.Step.{verdict_at, after_at, sent_at}
 use Rattle.kernel_choice.specs.Choice.{first_event}
 use Rattle.decide_law.proofs.Stopped.{look_rests}
-use Rattle.decide_law.specs.Agrees.{IsRecordOf}
-use Rattle.decide_law.specs.Wakes.{WakesOthers}
-use Rattle.decide_law.specs.Law.{Based, Settled, next, sent_to, IsLegalOf, IsAnswerTo, IsNoBirth, IsStep}
-use Rattle.decide_law.specs.Places.{place_after}
-use Rattle.decide_law.specs.Effects.{quiet, plain, folded, emptied, settled_in, decided_by, written, left_by}
+use Rattle.decide_law.specs.Law.{Based, IsStep}
+use Rattle.decide_law.specs.Effects.{quiet, folded, emptied, settled_in, decided_by, left_by}
 use Rattle.decide_law.proofs.Shell.{settling, shell}
-use Rattle.decide_law.proofs.Quiet.{legal_call, quiet_step}
-use Rattle.decide_law.proofs.PlainStep.{plain_step}
+use Rattle.decide_law.proofs.Quiet.{quiet_step}
 
 -- a stopped process that looks, and to which nothing happens: the whole decision
 pub look_law : (rows : List Row) (p : Pid) (site : Site) (own : Own) (bag : Bag) (r : Row) (v : Vproc) (g : Group) → Based rows p own bag r v g → is_stopped r.life ≡ true → first_event rows r ≡ None →

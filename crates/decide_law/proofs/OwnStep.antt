@@ -1,5 +1,5 @@
 -- decisions that change the caller's record or its signals, and nothing else
-use Rattle.std.proofs.Common.{◌≡◌, ◌≢◌, ◌==◌, ◌↔◌, ℕ, Bool, true, false, cond, List, [], ◌∷◌, refl, sym, ap, ◌∙◌, subst, Option, None, Some}
+use Rattle.std.proofs.Common.{◌≡◌, ◌≢◌, ◌==◌, ℕ, Bool, true, false, cond, List, [], ◌∷◌, refl, sym, ap, ◌∙◌, subst, Option, None, Some}
 use Rattle.std.specs.Prelude.{map, is_some, if◌then◌else◌}
 use Rattle.std.proofs.lemmas.Bool.{ne_eqb}
 use Rattle.std.specs.Option.{option_map}
@@ -8,7 +8,6 @@ use Rattle.list_laws.proofs.Filters.{some_same}
 use Rattle.list_laws.proofs.Finding.{same_number}
 use Rattle.unix_names.specs.declared.Pid.{Pid}
 use Rattle.unix_names.specs.declared.NodeId.{NodeId}
-use Rattle.unix_names.specs.States.{is_living}
 use Rattle.unix_calls.specs.declared.Entry.{Entry}
 use Rattle.unix_calls.specs.declared.Job.{Job}
 use Rattle.unix_calls.specs.declared.Phase.TheVariants as phase
@@ -23,15 +22,15 @@ use Rattle.record_bag.specs.declared.bag.Bag.{Bag}
 use Rattle.record_bag.specs.declared.vector.Site.{Site}
 use Rattle.process_table.specs.declared.Row.{Row}
 use Rattle.process_table.specs.Rows.{row_of, is_pid, is_parent, is_stopped}
-use Rattle.decide_law.specs.Agrees.{vproc_at, IsRecordOf}
+use Rattle.decide_law.specs.Agrees.{IsRecordOf}
 use Rattle.decide_law.specs.Wakes.{report_in, WakesOthers}
 use Rattle.decide_law.specs.Nudges.{nudges_of}
 use Rattle.decide_law.specs.Places.{is_placed, place_after}
 use Rattle.decide_law.specs.Law.{Settled, next, sent_to, IsLegalOf, IsAnswerTo, IsNoBirth, IsStep}
-use Rattle.decide_law.specs.Effects.{only, same, changed, quiet, plain, decided_by, written}
+use Rattle.decide_law.specs.Effects.{only, same, quiet, plain, decided_by, written}
 use Rattle.decide_law.proofs.Records.{pid_same, row_pid}
 use Rattle.decide_law.proofs.Plain.{KeepsPlace, row_map, children_map}
-use Rattle.decide_law.proofs.PlainStep.{IsPlain, stays_put, plain_step}
+use Rattle.decide_law.proofs.PlainStep.{stays_put, plain_step}
 use Rattle.ordered_table.specs.Entries.{with_each}
 
 -- rows that keep who they are, where, and what they have to report are seen by waits as before

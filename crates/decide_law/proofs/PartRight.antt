@@ -1,5 +1,5 @@
 -- an effect that is a step of the settled bag makes a lawful answer
-use Rattle.std.proofs.Common.{◌≡◌, List, [], refl, sym, ap, ◌∙◌, subst, Option, None, Some, Result, Ok, Err}
+use Rattle.std.proofs.Common.{◌≡◌, List, refl, sym, ◌∙◌, subst, Option, Result, Ok, Err}
 use Rattle.std.specs.Prelude.{false, IfOk}
 use Rattle.unix_names.specs.declared.Pid.{Pid}
 use Rattle.unix_names.specs.declared.NodeId.{NodeId}
@@ -18,11 +18,11 @@ use Rattle.record_bag.specs.declared.vector.Outcome.{Outcome}
 use Rattle.record_bag.specs.Decisions.{Answered, answered}
 use Rattle.process_table.specs.declared.Row.{Row}
 use Rattle.process_table.specs.Rows.{is_stopped}
-use Rattle.decide_law.specs.Law.{Asks, Based, next, IsStep}
+use Rattle.decide_law.specs.Law.{Based, next, IsStep}
 use Rattle.decide_law.specs.Vector.{IsAnswer}
 use Rattle.decide_law.specs.Effects.{Effect, folded, emptied, settled_in, decided_by, written}
 use Rattle.decide_law.specs.Footprints.{lacking, is_none, call_footprint}
-use Rattle.decide_law.specs.Answer.{IsRight, on_footprint, NothingComes}
+use Rattle.decide_law.specs.Answer.{IsRight, on_footprint}
 use Rattle.decide_law.specs.Parts.{EachHeld, CallEffect, IsCallStep, answer_by, decide_by, IsLawfulFor, IsCallAnswered}
 use Rattle.decide_law.proofs.Held.{none_lacks}
 use Rattle.decide_law.proofs.Needed.{on_footprint_right}

@@ -1,5 +1,5 @@
--- records that were taken out and put back changed
-use Rattle.std.proofs.Common.{◌≡◌, ◌≤◌, List, [], length, refl, sym, ap, ◌∙◌, subst, Option, None, Some}
+-- records that were lent and changed
+use Rattle.std.proofs.Common.{◌≡◌, ◌≤◌, List, [], length, refl, sym, ap, ◌∙◌, subst, Option, IsSome, None, Some}
 use Rattle.std.specs.Prelude.{All}
 use Rattle.std.specs.Option.{option_map}
 use Rattle.list_laws.proofs.Filters.{some_same, map-id}
@@ -7,7 +7,6 @@ use Rattle.unix_names.specs.declared.Pid.{Pid}
 use Rattle.vproc_record.specs.declared.Vproc.{Vproc}
 use Rattle.group_record.specs.declared.Group.{Group}
 use Rattle.group_record.specs.Groups.{settled, trimmed}
-use Rattle.ordered_table.specs.declared.Entry.{Entry}
 use Rattle.ordered_table.specs.Entries.{value_at, with_value, with_each, IsRising}
 use Rattle.record_bag.specs.declared.bag.Bag.{Bag}
 use Rattle.unix_calls.specs.declared.Entry.{Entry as History}
@@ -15,30 +14,27 @@ use Rattle.unix_calls.specs.declared.Phase.{Phase}
 use Rattle.signal_state.specs.declared.Own.{Own}
 use Rattle.group_record.proofs.LogLaws.{within-settled}
 use Rattle.record_bag.specs.declared.vector.Outcome.TheVariants as outcome
+use Rattle.record_bag.specs.Bags.{present}
 use Rattle.record_bag.specs.Decisions.{answered}
 use Rattle.decide_law.specs.Agrees.{vproc_at, group_at}
 use Rattle.decide_law.specs.Base.{HasBase}
 use Rattle.decide_law.proofs.Records.{only_same}
 use Rattle.decide_law.proofs.Changes.{group_changed, vproc_changed}
 use Rattle.decide_law.specs.Effects.{only, changed, same, emptied, settled_for, settled_in, trimmed_in, folded, quiet, done_by}
-use Rattle.decide_law.proofs.Tables.{put_back, put_is_each}
+use Rattle.decide_law.proofs.Tables.{lent, not_lent}
 
-pub trimmed_put : (bag : Bag) (id : Pid) (g g' : Group) (mid new : List (Entry (Option Group))) → IsRising bag.groups → value_at bag.groups id ≡ Some (Some g) → mid ≡ with_value bag.groups id None → g' ≡ trimmed g → new ≡ with_value mid id (Some g') →
-    record bag { groups = new } ≡ trimmed_in id bag
-trimmed_put bag id g g' mid new r v out is back =
-    ap (λ gs. record bag { groups = gs }) (back ∙ ap (λ es. with_value es id (Some g')) out ∙ ap (λ (h : Group). with_value (with_value bag.groups id None) id (Some h)) is ∙ put_back id (option_map trimmed) bag.groups (Some g) None r v)
+pub trimmed_lent : (bag : Bag) (id : Pid) (g g' : Group) → IsRising bag.groups → Some g ≡ present (value_at bag.groups id) → g' ≡ trimmed g → record bag { groups = with_value bag.groups id (Some g') } ≡ trimmed_in id bag
+trimmed_lent bag id g g' r v is = ap (λ gs. record bag { groups = gs }) (lent id trimmed bag.groups g g' r v is)
 
-pub trimmed_absent : (bag : Bag) (id : Pid) (new : List (Entry (Option Group))) → IsRising bag.groups → value_at bag.groups id ≡ Some None → new ≡ with_value bag.groups id None → record bag { groups = new } ≡ trimmed_in id bag
-trimmed_absent bag id new r v out = ap (λ gs. record bag { groups = gs }) (out ∙ put_is_each id (option_map trimmed) bag.groups None r v)
+pub trimmed_absent : (bag : Bag) (id : Pid) → IsRising bag.groups → IsSome (value_at bag.groups id) → None ≡ present (value_at bag.groups id) → bag ≡ trimmed_in id bag
+trimmed_absent bag id r held none = ap (λ gs. record bag { groups = gs }) (not_lent id trimmed bag.groups r held none)
 
-pub settled_put : (bag : Bag) (p : Pid) (u v v' : Vproc) (g g' : Group) (vmid vnew : List (Entry (Option Vproc))) (gmid gnew : List (Entry (Option Group))) → IsRising bag.vprocs → IsRising bag.groups → value_at bag.vprocs p ≡ Some (Some v) → value_at bag.groups v.group ≡ Some (Some g) → v.pid ≡ p →
-    vmid ≡ with_value bag.vprocs p None → gmid ≡ with_value bag.groups v.group None → v' ≡ emptied v → g' ≡ settled g v.pid → gnew ≡ with_value gmid v.group (Some g') → vnew ≡ with_value vmid p (Some v') →
-    vproc_at bag p ≡ Some (Some u) → record { vprocs = vnew; groups = gnew } ≡ settled_in p u.group bag
-settled_put bag p u v v' g g' vmid vnew gmid gnew rv rg ev eg at_p vout gout vis gis gback vback here =
-    ap (λ vs. record bag { vprocs = vs; groups = gnew }) (vback ∙ ap (λ es. with_value es p (Some v')) vout ∙ ap (λ (h : Vproc). with_value (with_value bag.vprocs p None) p (Some h)) vis ∙ put_back p (option_map emptied) bag.vprocs (Some v) None rv ev)
-    ∙ ap (λ gs. record bag { vprocs = with_each (only p (option_map emptied)) bag.vprocs; groups = gs }) (gback ∙ ap (λ es. with_value es v.group (Some g')) gout ∙ ap (λ (h : Group). with_value (with_value bag.groups v.group None) v.group (Some h)) (gis ∙ ap (settled g) at_p)
-    ∙ put_back v.group (option_map (settled_for p)) bag.groups (Some g) None rg eg)
-    ∙ ap (λ (q : Pid). settled_in p q bag) (ap (λ (w : Vproc). w.group) (some_same _ _ (some_same _ _ (sym ev ∙ here))))
+pub settled_lent : (bag : Bag) (p : Pid) (u v v' : Vproc) (g g' : Group) → IsRising bag.vprocs → IsRising bag.groups → Some v ≡ present (value_at bag.vprocs p) → Some g ≡ present (value_at bag.groups v.group) → v.pid ≡ p → v' ≡ emptied v → g' ≡ settled g v.pid →
+    vproc_at bag p ≡ Some (Some u) → record { vprocs = with_value bag.vprocs p (Some v'); groups = with_value bag.groups v.group (Some g') } ≡ settled_in p u.group bag
+settled_lent bag p u v v' g g' rv rg ev eg at_p vis gis here =
+    ap (λ vs. record { vprocs = vs; groups = with_value bag.groups v.group (Some g') }) (lent p emptied bag.vprocs v v' rv ev vis)
+    ∙ ap (λ gs. record { vprocs = with_each (only p (option_map emptied)) bag.vprocs; groups = gs }) (lent v.group (settled_for p) bag.groups g g' rg eg (gis ∙ ap (settled g) at_p))
+    ∙ ap (λ (q : Pid). settled_in p q bag) (ap (λ (w : Vproc). w.group) (some_same _ _ (ev ∙ ap present here)))
 
 -- ---- decisions that write nothing
 pub same_bag : (bag : Bag) → changed same same bag ≡ bag

@@ -30,7 +30,7 @@ use Rattle.kernel_model.specs.declared.Verdict.TheVariants.{Legal}
 use Rattle.kernel_model.specs.Step.{verdict, verdict_at}
 use Rattle.decide_law.specs.Agrees.{vproc_at, group_at}
 use Rattle.decide_law.specs.Law.{Settled, next, sent_to, IsLegalOf, IsAnswerTo, IsNoBirth, IsStep}
-use Rattle.decide_law.specs.Places.{place_after, is_placed, destination}
+use Rattle.decide_law.specs.Places.{place_after, is_placed}
 use Rattle.decide_law.specs.Effects.{same, changed, quiet, decided_by, written}
 use Rattle.kernel_rules.specs.Events.{StaysStopped}
 use Rattle.decide_law.proofs.Phases.{lives_on}

@@ -3,13 +3,13 @@ use Rattle.std.proofs.Common.{◌≡◌, ◌≢◌, ◌==◌, ℕ, Bool, true, f
 use Rattle.std.specs.Prelude.{map, is_some}
 use Rattle.std.specs.Option.{option_map}
 use Rattle.std.proofs.lemmas.Bool.{ne_eqb, eq-eqb}
-use Rattle.list_laws.specs.Keyed.{at, Distinct, option_filter}
-use Rattle.list_laws.proofs.Finding.{at-map, found, distinct-map}
+use Rattle.list_laws.specs.Keyed.{Distinct, option_filter}
+use Rattle.list_laws.proofs.Finding.{found, distinct-map}
 use Rattle.unix_names.specs.declared.Pid.{Pid}
 use Rattle.vproc_record.specs.declared.Vproc.{Vproc}
 use Rattle.group_record.specs.declared.Member.{Member}
 use Rattle.group_record.specs.declared.Group.{Group}
-use Rattle.group_record.specs.Members.{member_number, member_of, has_member, uid_of, least_from, lowered, begun_at}
+use Rattle.group_record.specs.Members.{member_number, member_of, has_member, least_from, lowered, begun_at}
 use Rattle.group_record.specs.Groups.{settled, trimmed}
 use Rattle.group_record.proofs.LogLaws.{within-trimmed, within-settled}
 use Rattle.process_table.specs.declared.Row.{Row}

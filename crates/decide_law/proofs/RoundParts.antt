@@ -1,5 +1,5 @@
 -- the parts of a decision, as the code makes them one after another, are the whole
-use Rattle.std.proofs.Common.{◌≡◌, List, [], refl, sym, ap, ◌∙◌, subst, Option, None, Some}
+use Rattle.std.proofs.Common.{◌≡◌, List, [], sym, ap, ◌∙◌, Option, None, Some}
 use Rattle.unix_names.specs.declared.Pid.{Pid}
 use Rattle.unix_names.specs.declared.Name.{Name}
 use Rattle.unix_calls.specs.declared.Call.{Call}

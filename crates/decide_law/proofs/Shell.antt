@@ -23,9 +23,9 @@ use Rattle.process_table.specs.declared.Row.{Row}
 use Rattle.process_table.specs.Rows.{row_of, in_group}
 use Rattle.decide_law.specs.Agrees.{vproc_at, group_at, IsRecordOf, VprocAgrees, IsGroupOf, GroupAgrees, Agrees}
 use Rattle.decide_law.specs.Law.{IsOwn, Based, Settled, sent_to, SameNames, Grows, IsBorn, BirthIs, IsStep}
-use Rattle.decide_law.specs.Effects.{only, changed, emptied, settled_for, folded, settled_in, trimmed_in, Effect, decided_by, written, left_by}
+use Rattle.decide_law.specs.Effects.{only, emptied, settled_for, folded, settled_in, trimmed_in, Effect, decided_by, written, left_by}
 use Rattle.decide_law.proofs.Records.{row_pid, only_same, only_other, member_has, trimmed_agrees, settled_agrees, emptied_agrees, only_keeps}
-use Rattle.decide_law.proofs.Changes.{vproc_changed, group_changed, only_at_same, only_at_other, names_changed, mapped_none, agrees_changed}
+use Rattle.decide_law.proofs.Changes.{vproc_changed, group_changed, only_at_other, names_changed, mapped_none, agrees_changed}
 use Rattle.decide_law.proofs.NudgesKept.{nudges_same, settling_others, trimming_orphans}
 
 -- ---- settling

@@ -1,5 +1,5 @@
 -- what the code of a decision is called on
-use Rattle.std.specs.Prelude.{◌≡◌, ◌≤◌, length, All, List, [], ◌∷◌, Option, None, Some}
+use Rattle.std.specs.Prelude.{◌≡◌, ◌≤◌, length, All, [], ◌∷◌, Option, None, Some}
 use Rattle.unix_names.specs.declared.Pid.{Pid}
 use Rattle.signal_state.specs.declared.Own.{Own}
 use Rattle.vproc_record.specs.declared.Vproc.{Vproc}

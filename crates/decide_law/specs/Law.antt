@@ -1,7 +1,6 @@
 -- what a decision owes the one kernel
 use Rattle.std.specs.Prelude.{ℕ, Bool, true, false, ◌≡◌, ◌≢◌, ◌≤◌, ◌<◌, ◌^◌, ◌==◌, List, [], ◌++◌, length, Option, None, Some, is_some}
 use Rattle.unix_names.specs.declared.Pid.{Pid}
-use Rattle.unix_names.specs.declared.NodeId.{NodeId}
 use Rattle.unix_names.specs.declared.Signal.{Signal}
 use Rattle.unix_names.specs.Sets.{IsSignals}
 use Rattle.unix_names.specs.States.{is_living}

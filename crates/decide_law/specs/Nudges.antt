@@ -1,5 +1,5 @@
 -- whom a decision nudges, in order: those to whom something may have happened while they slept
-use Rattle.std.specs.Prelude.{ℕ, ℤ, pos, Bool, ◌==◌, ◌||◌, not, List, [], ◌∷◌, ◌++◌, map, filter, flat_map, Option, None, Some, if◌then◌else◌}
+use Rattle.std.specs.Prelude.{ℕ, ◌==◌, ◌||◌, not, List, [], ◌∷◌, ◌++◌, map, filter, flat_map, Option, None, Some, if◌then◌else◌}
 use Rattle.unix_names.specs.declared.Pid.{Pid}
 use Rattle.unix_names.specs.declared.Signal.{Signal}
 use Rattle.unix_names.specs.Signals.{signal_of}

@@ -10,16 +10,11 @@ ghost use Rattle.decide_law.specs.Effects.{only, changed, same, folded, emptied,
 ghost use Rattle.decide_law.specs.MethodAppend.{begun};
 
 use group_record::LogEntry;
-use record_bag::Bag;
+use record_bag::{Bag, record_mut};
 use sig_stream::fold_all;
 use signal_state::Own;
 use unix_names::{NoMemory, Pid};
-
-fn vprocs_rise(bag: &Bag)
-    ensures { IsRising bag.now.vprocs }
-{
-    let _vprocs = bag.vprocs.as_slice();
-}
+use vproc_record::Vproc;
 
 fn groups_rise(bag: &Bag)
     ensures { IsRising bag.now.groups }
@@ -33,13 +28,16 @@ fn append_in(id: Pid, entry: LogEntry, bag: &mut Bag) -> Result<(), NoMemory>
     ensures ok { OnOk result (bag.new ≡ changed same (only id (option_map (told_to entry))) bag.old) }
     ensures err { OnErr result (bag.new ≡ bag.old) }
 {
-    groups_rise(bag);
-    let Some(mut g) = bag.groups.replace(id, None) else {
-        return Ok(());
-    };
-    let appended = g.append(entry.signal, entry.target, entry.allow);
-    bag.groups.replace(id, Some(g));
-    appended
+    match record_mut(&mut bag.groups, id) {
+        Some(g) => g.append(entry.signal, entry.target, entry.allow),
+        None => Ok(()),
+    }
+}
+
+fn empty(v: &mut Vproc)
+    ensures { v.new ≡ emptied v.old }
+{
+    v.backlog.clear();
 }
 
 // The process has taken what was in its backlog.
@@ -48,10 +46,8 @@ fn empty_backlog(pid: Pid, bag: &mut Bag)
     ensures bag { bag.new ≡ changed (only pid (option_map emptied)) same bag.old }
     ensures groups { bag.new.groups ≡ bag.old.groups }
 {
-    vprocs_rise(bag);
-    if let Some(mut v) = bag.vprocs.replace(pid, None) {
-        v.backlog.clear();
-        bag.vprocs.replace(pid, Some(v));
+    if let Some(v) = record_mut(&mut bag.vprocs, pid) {
+        empty(v);
     }
 }
 
@@ -61,10 +57,8 @@ pub(crate) fn begin_in(id: Pid, end: u64, pid: Pid, bag: &mut Bag)
     ensures bag { bag.new ≡ changed same (only id (option_map (begun end pid))) bag.old }
     ensures vprocs { bag.new.vprocs ≡ bag.old.vprocs }
 {
-    groups_rise(bag);
-    if let Some(mut g) = bag.groups.replace(id, None) {
+    if let Some(g) = record_mut(&mut bag.groups, id) {
         g.begin_at(end, pid);
-        bag.groups.replace(id, Some(g));
     }
 }
 

@@ -18,7 +18,7 @@ ghost use Rattle.decide_law.specs.MethodKept.{backlogged};
 use crate::append::begin_in;
 use crate::rounds::both_rise;
 use group_record::Group;
-use record_bag::Bag;
+use record_bag::{Bag, record_mut};
 use sig_stream::fold_tail;
 use signal_state::Own;
 use std::alloc::Global;
@@ -75,18 +75,19 @@ pub fn settle_keeping(alloc: Global, own: &mut Own, pid: Pid, bag: &mut Bag) -> 
     // Where the group lists each member once, it can be given back.
     ensures kept { (v : TheVproc) (g : TheGroup) → vproc_at bag.old pid ≡ Some (Some v) → group_at bag.old v.group ≡ Some (Some g) → Distinct member_number g.members → IsKeptFrom bag.old pid result }
 {
-    both_rise(bag);
-    let Some(mut v) = bag.vprocs.replace(pid, None) else {
+    let Some(v) = record_mut(&mut bag.vprocs, pid) else {
         unreachable!();
     };
-    let id = v.group;
-    let Some(mut g) = bag.groups.replace(id, None) else {
+    let Some(g) = record_mut(&mut bag.groups, v.group) else {
         unreachable!();
     };
-    let kept = take_out(alloc, own, &mut v, &mut g);
-    bag.groups.replace(id, Some(g));
-    bag.vprocs.replace(pid, Some(v));
-    kept
+    take_out(alloc, own, v, g)
+}
+
+fn fill(v: &mut Vproc, backlog: Seq<Signal>)
+    ensures { v.new ≡ backlogged backlog v.old }
+{
+    v.backlog = backlog;
 }
 
 // The process has this backlog.
@@ -95,10 +96,8 @@ fn fill_backlog(pid: Pid, backlog: Seq<Signal>, bag: &mut Bag)
     ensures bag { bag.new ≡ changed (only pid (option_map (backlogged backlog))) same bag.old }
     ensures groups { bag.new.groups ≡ bag.old.groups }
 {
-    both_rise(bag);
-    if let Some(mut v) = bag.vprocs.replace(pid, None) {
-        v.backlog = backlog;
-        bag.vprocs.replace(pid, Some(v));
+    if let Some(v) = record_mut(&mut bag.vprocs, pid) {
+        fill(v, backlog);
     }
 }
 

@@ -4,22 +4,18 @@ ghost use Rattle.record_bag.specs.declared.vector.Outcome.TheVariants.{Done};
 ghost use Rattle.unix_names.specs.declared.Pid.{Pid as ThePid};
 ghost use Rattle.vproc_record.specs.declared.Vproc.{Vproc as TheVproc};
 ghost use Rattle.group_record.specs.declared.Group.{Group as TheGroup};
-ghost use Rattle.group_record.specs.Groups.{settled, trimmed};
-ghost use Rattle.sig_stream.specs.Streams.{IsListed, stream};
 ghost use Rattle.ordered_table.specs.Entries.{IsRising};
 ghost use Rattle.decide_law.specs.Agrees.{vproc_at, group_at};
 ghost use Rattle.record_bag.specs.Decisions.{answered};
 ghost use Rattle.decide_law.specs.Base.{HasBase};
 ghost use Rattle.decide_law.specs.Effects.{folded, emptied, settled_in, trimmed_in, done_by, quiet};
 
-use group_record::Group;
-use record_bag::{Bag, Decided, Outcome};
-use sig_stream::fold_all;
+use record_bag::{Bag, Decided, Outcome, record_mut};
+use sig_stream::fold_and_settle;
 use signal_state::Own;
 use std::alloc::Global;
 use unix_calls::{Entry, Phase};
 use unix_names::{Pid, Seq};
-use vproc_record::Vproc;
 
 // The names of a bag rise.
 pub(crate) fn both_rise(bag: &Bag)
@@ -28,19 +24,6 @@ pub(crate) fn both_rise(bag: &Bag)
 {
     let _vprocs = bag.vprocs.as_slice();
     let _groups = bag.groups.as_slice();
-}
-
-// The process takes in its tail, and is settled.
-fn take_in(own: &mut Own, v: &mut Vproc, g: &mut Group)
-    requires listed { IsListed v.old g.old }
-    requires taken { own.old.taken ≤ length (stream v.old g.old) }
-    ensures own { own.new ≡ folded own.old v.old g.old }
-    ensures vproc { v.new ≡ emptied v.old }
-    ensures group { g.new ≡ settled g.old v.old.pid }
-{
-    fold_all(own, v, g);
-    v.backlog.clear();
-    g.settle(v.pid);
 }
 
 /// The process takes in its tail, and is settled. Answers its group, which is there. It takes no memory.
@@ -53,17 +36,14 @@ pub fn settle_in(own: &mut Own, pid: Pid, bag: &mut Bag) -> Pid
     ensures held { IsSome (group_at bag.new result) }
     ensures within { (g : TheGroup) → group_at bag.new result ≡ Some (Some g) → All (λ m. m.from ≤ length g.log) g.members }
 {
-    both_rise(bag);
-    let Some(mut v) = bag.vprocs.replace(pid, None) else {
+    let Some(v) = record_mut(&mut bag.vprocs, pid) else {
         unreachable!();
     };
     let id = v.group;
-    let Some(mut g) = bag.groups.replace(id, None) else {
+    let Some(g) = record_mut(&mut bag.groups, id) else {
         unreachable!();
     };
-    take_in(own, &mut v, &mut g);
-    bag.groups.replace(id, Some(g));
-    bag.vprocs.replace(pid, Some(v));
+    fold_and_settle(own, v, g);
     id
 }
 
@@ -73,10 +53,8 @@ pub fn trim_in(id: Pid, bag: &mut Bag)
     requires within { (g : TheGroup) → group_at bag.old id ≡ Some (Some g) → All (λ m. m.from ≤ length g.log) g.members }
     ensures { bag.new ≡ trimmed_in id bag.old }
 {
-    both_rise(bag);
-    if let Some(mut g) = bag.groups.replace(id, None) {
+    if let Some(g) = record_mut(&mut bag.groups, id) {
         g.trim();
-        bag.groups.replace(id, Some(g));
     }
 }
 

@@ -1,5 +1,5 @@
 -- what joining, leaving, appending and trimming leave of the log's part of a process
-use Rattle.std.proofs.Common.{◌≡◌, ◌≢◌, ◌==◌, ◌≤◌, ◌+◌, ◌-◌, ℕ, Bool, true, false, cond, not, List, [], ◌∷◌, ◌++◌, length, drop, refl, sym, ap, ◌∙◌, subst, arith, Option, None, Some, length-drop, min}
+use Rattle.std.proofs.Common.{◌≡◌, ◌≢◌, ◌==◌, ◌≤◌, ◌+◌, ◌-◌, ℕ, Bool, true, false, cond, not, List, [], ◌∷◌, ◌++◌, length, drop, refl, sym, ap, ◌∙◌, arith, Option, None, Some, length-drop, min}
 use Rattle.std.specs.Prelude.{map, filter, fold, is_some, All}
 use Rattle.std.specs.Option.{option_map, option_or}
 use Rattle.std.proofs.lemmas.Bool.{eqb-true, ne_eqb}
@@ -14,7 +14,7 @@ use Rattle.group_record.specs.declared.log.LogEntry.{LogEntry}
 use Rattle.group_record.specs.declared.group.Group.{Group}
 use Rattle.group_record.specs.Members.{member_number, member_of, has_member, from_in, from_of, least_from, lowered, begun_at}
 use Rattle.group_record.specs.Log.{concerns, told, log_part}
-use Rattle.group_record.specs.Groups.{joined, left, with_entry, cut, trimmed, settled}
+use Rattle.group_record.specs.Groups.{joined, left, with_entry, trimmed, settled}
 
 -- the part depends on where it begins alone
 same_part : (p : Pid) (uid : ℕ) (g h : Group) → from_of h.members p ≡ from_of g.members p → h.log ≡ g.log → log_part p uid h ≡ log_part p uid g

@@ -1,9 +1,8 @@
 -- who is a member after the changes of a group's record, and with which user id
-use Rattle.std.proofs.Common.{◌≡◌, ◌≢◌, ◌==◌, ◌≤◌, ◌-◌, min, drop, ℕ, Bool, true, false, cond, not, List, [], ◌∷◌, ◌++◌, length, refl, sym, ap, ◌∙◌, arith, Option, None, Some}
-use Rattle.std.specs.Prelude.{map, filter, is_some, All}
+use Rattle.std.proofs.Common.{◌≡◌, ◌==◌, ◌≤◌, ◌-◌, ◌+◌, min, drop, take, take_all, get_or, ℕ, zero, suc, Bool, true, false, cond, not, List, [], ◌∷◌, ◌++◌, length, refl, sym, ap, ◌∙◌, arith, Option, None, Some}
+use Rattle.std.specs.Prelude.{map, filter, is_some}
 use Rattle.std.specs.Option.{option_map}
-use Rattle.std.proofs.lemmas.Bool.{eqb-true, eqb-false, ne_eqb}
-use Rattle.list_laws.specs.Keyed.{at, Distinct}
+use Rattle.list_laws.specs.Keyed.{at}
 use Rattle.list_laws.proofs.Finding.{at-map, same_number}
 use Rattle.unix_names.specs.declared.Pid.{Pid}
 use Rattle.group_record.specs.declared.member.Member.{Member}
@@ -95,3 +94,24 @@ cut-none g = sym (ap (λ (ms : List Member). record g { members = ms; log = drop
 pub least_of-zero : (ms : List Member) → least_of 0 ms ≡ 0
 least_of-zero [] = refl
 least_of-zero (m ∷ ms) = let z : min 0 m.from ≡ 0 = omega arith in ap (λ n. least_of n ms) z ∙ least_of-zero ms
+
+-- one member less at the end, and the least is no greater than where it began
+least_of-one : (n : ℕ) (ms : List Member) (k j : ℕ) (d : Member) → j ≡ k + 1 → j ≤ length ms → least_of (min n (get_or ms k d).from) (take k ms) ≡ least_of n (take j ms)
+least_of-one n ms k zero d e within = absurd (omega arith)
+least_of-one n [] k (suc j) d e within = absurd (omega arith)
+least_of-one n (m ∷ ms) zero (suc zero) d e within = refl
+least_of-one n (m ∷ ms) zero (suc (suc j)) d e within = absurd (omega arith)
+least_of-one n (m ∷ ms) (suc k) (suc j) d e within =
+    let x : ℕ = (get_or ms k d).from in
+    let swap : min (min n x) m.from ≡ min (min n m.from) x = omega arith in
+    ap (λ i. least_of i (take k ms)) swap ∙ least_of-one (min n m.from) ms k j d (omega arith) (omega arith)
+
+-- the last four at once
+pub least_of-four : (n a b c e : ℕ) (ms : List Member) (d : Member) → 4 ≤ length ms → a ≡ min n (get_or ms (length ms - 1) d).from → b ≡ min a (get_or ms (length ms - 2) d).from → c ≡ min b (get_or ms (length ms - 3) d).from → e ≡ min c (get_or ms (length ms - 4) d).from →
+    least_of e (take (length ms - 4) ms) ≡ least_of n ms
+least_of-four n a b c e ms d four ia ib ic ie =
+    ap (λ i. least_of i (take (length ms - 4) ms)) ie ∙ least_of-one c ms (length ms - 4) (length ms - 3) d (omega arith) (omega arith)
+    ∙ ap (λ i. least_of i (take (length ms - 3) ms)) ic ∙ least_of-one b ms (length ms - 3) (length ms - 2) d (omega arith) (omega arith)
+    ∙ ap (λ i. least_of i (take (length ms - 2) ms)) ib ∙ least_of-one a ms (length ms - 2) (length ms - 1) d (omega arith) (omega arith)
+    ∙ ap (λ i. least_of i (take (length ms - 1) ms)) ia ∙ least_of-one n ms (length ms - 1) (length ms) d (omega arith) (omega arith)
+    ∙ ap (least_of n) (take_all (length ms) ms (omega arith))

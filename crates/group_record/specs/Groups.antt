@@ -1,5 +1,5 @@
 -- what the changes of a group's record leave
-use Rattle.std.specs.Prelude.{ℕ, ◌==◌, not, List, [], ◌∷◌, ◌++◌, map, filter, drop, length}
+use Rattle.std.specs.Prelude.{ℕ, ◌==◌, not, [], ◌∷◌, ◌++◌, map, filter, drop, length}
 use Rattle.unix_names.specs.declared.Pid.{Pid}
 use Rattle.group_record.specs.declared.log.LogEntry.{LogEntry}
 use Rattle.group_record.specs.declared.group.Group.{Group}

@@ -134,6 +134,22 @@ impl Group {
         self.begin_at(end, p);
     }
 
+    /// The same, and answers where the part began, 0 for who is no member. It takes no memory.
+    pub fn settle_from(&mut self, p: Pid) -> u64
+        ensures began { result ≡ from_of self.old.members p }
+        ensures settled { self.new ≡ settled self.old p }
+    {
+        let end = self.log.len() as u64;
+        begin_at(self.members.as_mut_slice(), end, p)
+    }
+
+    /// The entries of the log from a place on; none past the end.
+    pub fn entries_from(&self, from: u64) -> &[LogEntry]
+        ensures { result.now ≡ drop from self.now.log }
+    {
+        entries_from(self.log.as_slice(), from)
+    }
+
     /// A process's part of the log begins at this place, if it is a member. It takes no memory.
     pub fn begin_at(&mut self, from: u64, p: Pid)
         ensures { self.new ≡ record self.old { members = map (begun_at from p) self.old.members } }

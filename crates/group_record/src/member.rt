@@ -1,6 +1,7 @@
 // The members of a group.
-ghost use Rattle.std.specs.Prelude.{◌≡◌, map};
-ghost use Rattle.group_record.specs.Members.{member_of, least_of, least_from, lowered, begun_at};
+ghost use Rattle.std.specs.Prelude.{◌≡◌, ◌<◌, ◌+◌, length, drop, map, slice_get};
+ghost use Rattle.group_record.specs.Members.{member_of, from_in, from_of, least_of, least_from, lowered, begun_at};
+ghost use Rattle.group_record.specs.MethodPlaces.{others_first};
 
 use unix_names::Pid;
 
@@ -14,33 +15,55 @@ pub struct Member {
     pub uid: u32,
 }
 
-fn member_among(members: &[Member], p: Pid) -> Option<Member>
-    ensures { result ≡ member_of members.now p }
+fn place_among(members: &[Member], p: Pid) -> usize
+    ensures { result ≡ others_first p members.now }
 {
-    members.iter().copied().find(|m| m.pid == p)
+    let mut rest = members;
+    while let [m, others @ ..] = rest {
+        if m.pid == p {
+            break;
+        }
+        rest = others;
+    }
+    members.len() - rest.len()
+}
+
+// How many members stand before the first process of that id.
+fn place_of(members: &[Member], p: Pid) -> usize
+    ensures { result ≡ others_first p members.now }
+{
+    // Four at a time, since a group may have hundreds.
+    let mut rest = members;
+    while let [a, b, c, d, others @ ..] = rest {
+        if a.pid == p || b.pid == p || c.pid == p || d.pid == p {
+            break;
+        }
+        rest = others;
+    }
+    members.len() - rest.len() + place_among(rest, p)
+}
+
+// Where the next process of that id stands after a place, or else the end.
+fn place_after(members: &[Member], at: usize, p: Pid) -> usize
+    requires { at < length members.now }
+    ensures { result ≡ (at + 1) + others_first p (drop (at + 1) members.now) }
+{
+    at + 1 + place_of(&members[at + 1..], p)
 }
 
 pub(crate) fn member_of(members: &[Member], p: Pid) -> Option<Member>
     ensures { result ≡ member_of members.now p }
 {
-    // Four at a time, since a group may have hundreds.
-    let mut rest = members;
-    while let [a, b, c, d, others @ ..] = rest {
-        if a.pid == p {
-            return Some(*a);
-        }
-        if b.pid == p {
-            return Some(*b);
-        }
-        if c.pid == p {
-            return Some(*c);
-        }
-        if d.pid == p {
-            return Some(*d);
-        }
-        rest = others;
+    member_at(members, place_of(members, p))
+}
+
+fn member_at(members: &[Member], at: usize) -> Option<Member>
+    ensures { result ≡ slice_get members.now at }
+{
+    match members.get(at) {
+        None => None,
+        Some(m) => Some(*m),
     }
-    member_among(rest, p)
 }
 
 pub(crate) fn least_from(members: &[Member]) -> u64
@@ -52,18 +75,18 @@ pub(crate) fn least_from(members: &[Member]) -> u64
     }
 }
 
-// The least of a number and of where these members' parts begin. Past a 0 there is nothing to look for.
+// The least of a number and of where these members' parts begin. The last ones come first, since who joined early has mostly gone on. Below a 0 there is nothing to look for.
 fn least_of(start: u64, members: &[Member]) -> u64
     ensures { result ≡ least_of start members.now }
 {
     // Four at a time, since a group may have hundreds.
     let mut least = start;
     let mut rest = members;
-    while let [a, b, c, d, others @ ..] = rest {
+    while let [others @ .., a, b, c, d] = rest {
         if least == 0 {
             return 0;
         }
-        least = least.min(a.from).min(b.from).min(c.from).min(d.from);
+        least = least.min(d.from).min(c.from).min(b.from).min(a.from);
         rest = others;
     }
     least_among(least, rest)
@@ -84,12 +107,25 @@ pub(crate) fn lower_each(members: &mut [Member], by: u64)
     }
 }
 
-pub(crate) fn begin_at(members: &mut [Member], from: u64, p: Pid)
-    ensures { members.new ≡ map (begun_at from p) members.old }
+fn from_at(members: &[Member], at: usize) -> u64
+    ensures { result ≡ from_in (slice_get members.now at) }
 {
-    for m in members.iter_mut() {
-        if m.pid == p {
-            m.from = from;
-        }
+    match members.get(at) {
+        None => 0,
+        Some(m) => m.from,
     }
+}
+
+// A process's part of the log begins at this place, if it is a member. Answers where it began before.
+pub(crate) fn begin_at(members: &mut [Member], from: u64, p: Pid) -> u64
+    ensures began { result ≡ from_of members.old p }
+    ensures begun { members.new ≡ map (begun_at from p) members.old }
+{
+    let mut at = place_of(members, p);
+    let began = from_at(members, at);
+    while at < members.len() {
+        members[at].from = from;
+        at = place_after(members, at, p);
+    }
+    began
 }

@@ -1,10 +1,10 @@
 -- an id's place among entries that rise
-use Rattle.std.proofs.Common.{◌≡◌, ◌==◌, ◌<◌, ◌≤◌, ℕ, zero, suc, Bool, true, false, nat_lt, List, [], ◌∷◌, length, get_or, ap, sym, ◌∙◌, refl, arith, Some, if◌then◌else◌, Option}
+use Rattle.std.proofs.Common.{◌≡◌, ◌==◌, ◌<◌, ℕ, zero, suc, Bool, true, false, nat_lt, List, [], ◌∷◌, length, get_or, ap, sym, ◌∙◌, refl, arith, Some, if◌then◌else◌, Option}
 use Rattle.std.specs.List.{last_or}
 use Rattle.std.proofs.lemmas.Bool.{eqb-true}
 use Rattle.unix_names.specs.declared.Pid.{Pid}
 use Rattle.ordered_table.specs.declared.entries.Entry.{Entry}
-use Rattle.ordered_table.specs.Entries.{pids_of, AllAbove, AllUpTo, IsRising}
+use Rattle.ordered_table.specs.Entries.{pids_of, AllUpTo, IsRising}
 use Rattle.ordered_table.proofs.RisingLaws.{above-at}
 use Rattle.ordered_table.specs.MethodPlaces.{place, IsFoundAt, IsVacantAt}
 

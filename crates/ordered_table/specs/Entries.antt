@@ -1,5 +1,5 @@
 -- values by process id
-use Rattle.std.specs.Prelude.{◌≡◌, ◌≢◌, ℕ, slice_get, slice_set, ◌<◌, ◌≤◌, ◌==◌, nat_lt, is_some, Bool, List, [], ◌∷◌, map, Option, Some, None, if◌then◌else◌}
+use Rattle.std.specs.Prelude.{◌≡◌, ◌≢◌, ℕ, slice_get, slice_set, ◌≤◌, ◌==◌, nat_lt, is_some, Bool, List, [], ◌∷◌, map, Option, Some, None, if◌then◌else◌}
 use Rattle.unix_names.specs.declared.Pid.{Pid}
 use Rattle.ordered_table.specs.declared.entries.Entry.{Entry}
 use Rattle.ordered_table.specs.Rising.{AllAboveBy, IsRisingBy}

@@ -1,4 +1,5 @@
 pub mod Entries
+pub mod Lends
 pub mod Lists
 pub mod MethodPlaces
 pub mod Rising

@@ -1,5 +1,5 @@
 -- method: where an id stands among the entries
-use Rattle.std.specs.Prelude.{ℕ, zero, suc, ◌≡◌, ◌<◌, ◌≤◌, nat_lt, List, [], ◌∷◌, length, slice_get, slice_index_or, slice_set, insert, remove, Some, None, if◌then◌else◌}
+use Rattle.std.specs.Prelude.{ℕ, ◌≡◌, ◌<◌, ◌≤◌, List, length, slice_get, slice_index_or, slice_set, insert, remove, Some, None}
 use Rattle.unix_names.specs.declared.Pid.{Pid}
 use Rattle.ordered_table.specs.declared.entries.Entry.{Entry}
 use Rattle.ordered_table.specs.Rising.{place_by}

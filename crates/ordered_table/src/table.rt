@@ -1,8 +1,11 @@
 // A table of values by process id.
 ghost use Rattle.std.specs.Prelude.{◌≡◌, ◌<◌, ◌≢◌, ◌↔◌, [], ◌∷◌, length, IsTrue, IfSome, IfNone, IfErr, IfOk, OnOk, OnErr, IsSome, IsOk, Some, None};
 ghost use Rattle.std.specs.List.{last_or};
-ghost use Rattle.std.specs.Option.{option_copied};
+ghost use Rattle.std.specs.Option.{option_copied, option_copied_mut};
+ghost use Rattle.std.specs.Borrow.{sem};
 ghost use Rattle.ordered_table.specs.Entries.{value_at, with_value, without, has_value, pids_of, AllUpTo, AllAbove, IsRising, SameElsewhere, IsReplacedAt};
+ghost use Rattle.ordered_table.specs.Lends.{lends_found, lends_value};
+ghost use Rattle.ordered_table.specs.MethodPlaces.{IsFoundAt};
 
 use crate::entries::{Entry, greatest, pop_first, put, remove, replace, replace_value_at, search};
 use std::alloc::Global;
@@ -70,6 +73,28 @@ impl<T> Table<T> {
             Ok(at) => Some(&self.entries[at].value),
             Err(_) => None,
         }
+    }
+
+    /// The value of an id, to be changed where it lies. None exactly where the id has none; the table then stays as it is. It takes no memory.
+    pub fn get_mut(&mut self, pid: Pid) -> Option<&mut T>
+        ensures* writes_back { sem 𝓛 (lends_value T.row self.entry pid result) }
+        ensures value { option_copied_mut result ≡ value_at self.old pid }
+        ensures rising { IsRising self.old }
+    {
+        match search(self.entries.as_slice(), pid) {
+            Ok(at) => Some(self.value_mut(pid, at)),
+            Err(_) => None,
+        }
+    }
+
+    // The value of an id, whose entry stands at this place.
+    fn value_mut(&mut self, pid: Pid, at: usize) -> &mut T
+        requires { IsFoundAt self.old pid at }
+        ensures* writes_back { sem 𝓛 (lends_found T.row self.entry pid result) }
+        ensures value { value_at self.old pid ≡ Some result.now }
+        ensures rising { IsRising self.old }
+    {
+        &mut self.entries[at].value
     }
 
     /// Whether an id has a value.

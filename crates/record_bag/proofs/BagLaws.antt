@@ -1,16 +1,18 @@
 -- a bag as a map from names
-use Rattle.std.proofs.Common.{◌≡◌, ◌≢◌, ℕ, Bool, true, false, List, [], ◌∷◌, ◌++◌, map, sym, ap, ◌∙◌, subst, refl, Some, None, Option, Result, Ok, Err, OnOk}
+use Rattle.std.proofs.Common.{◌≡◌, ◌≢◌, ◌==◌, nat_lt, if◌then◌else◌, ℕ, Bool, true, false, List, [], ◌∷◌, ◌++◌, map, sym, ap, ◌∙◌, refl, Some, None, Result, Ok, Err, OnOk}
 use Rattle.std.specs.Option.{option_map}
 use Rattle.unix_names.specs.declared.Pid.{Pid}
 use Rattle.unix_names.specs.declared.Name.{Name}
 use Rattle.unix_names.specs.declared.Name.TheVariants as name
-use Rattle.ordered_table.specs.Entries.{value_at, pids_of}
+use Rattle.std.proofs.lemmas.Bool.{eqb-true}
+use Rattle.ordered_table.specs.declared.Entry.{Entry}
+use Rattle.ordered_table.specs.Entries.{value_at, with_value, pids_of}
 use Rattle.ordered_table.proofs.MapLaws.{put-same, put-other, pids-put, has_value-pids}
 use Rattle.record_bag.specs.declared.held.Held.{Held}
 use Rattle.record_bag.specs.declared.held.Held.TheVariants as held
 use Rattle.record_bag.specs.declared.bag.Bag.{Bag}
 use Rattle.record_bag.specs.Kinds.{of_kind, vproc_of, group_of}
-use Rattle.record_bag.specs.Bags.{is_held, held_at, with_held, held_names, SameElsewhere}
+use Rattle.record_bag.specs.Bags.{is_held, held_at, with_held, held_names}
 
 -- what was put is held
 pub held_at-put : (bag : Bag) (n : Name) (h : Held) → held_at (with_held bag n h) n ≡ Some (of_kind n h)
@@ -64,3 +66,17 @@ is_held-names a b (name.V p) same =
     has_value-pids a.vprocs b.vprocs p (sym (vprocs-names (pids_of a.vprocs) (pids_of a.groups)) ∙ (ap vprocs_in same ∙ vprocs-names (pids_of b.vprocs) (pids_of b.groups)))
 is_held-names a b (name.G g) same =
     has_value-pids a.groups b.groups g (sym (groups-names (pids_of a.vprocs) (pids_of a.groups)) ∙ (ap groups_in same ∙ groups-names (pids_of b.vprocs) (pids_of b.groups)))
+
+there_by : {T : Type 0} (e : Entry T) (es : List (Entry T)) (p : Pid) (v : T) (b c : Bool) → (e.pid.0 == p.0) ≡ c → (if b then value_at es p else (if c then Some e.value else None)) ≡ Some v → (value_at es p ≡ Some v → with_value es p v ≡ es) →
+    (if b then e ∷ with_value es p v else (if c then (record { pid = p; value = v }) ∷ es else (record { pid = p; value = v }) ∷ e ∷ es)) ≡ e ∷ es
+there_by e es p v true c same there rest = ap (λ l. e ∷ l) (rest there)
+there_by e es p v false true same there rest =
+    let one : p ≡ e.pid = ap (λ (n : ℕ). record { 0 = n }) (sym (eqb-true e.pid.0 p.0 same)) in
+    let kept : v ≡ e.value = cc in
+    ap (λ (q : Pid). (record { pid = q; value = v }) ∷ es) one ∙ ap (λ x. (record { pid = e.pid; value = x }) ∷ es) kept
+there_by e es p v false false same there rest = cc
+
+-- the value that an id has, put there again
+pub put-what_is_there : {T : Type 0} (es : List (Entry T)) (p : Pid) (v : T) → value_at es p ≡ Some v → with_value es p v ≡ es
+put-what_is_there [] p v there = cc
+put-what_is_there (e ∷ es) p v there = there_by e es p v (nat_lt e.pid.0 p.0) (e.pid.0 == p.0) refl there (put-what_is_there es p v)

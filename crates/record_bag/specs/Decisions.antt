@@ -1,5 +1,5 @@
 -- what the decisions of every vector have in common
-use Rattle.std.specs.Prelude.{ℕ, ◌≡◌, ◌<◌, ◌^◌, false, All, List, [], ◌∷◌, length}
+use Rattle.std.specs.Prelude.{◌≡◌, ◌<◌, ◌^◌, false, All, List, length}
 use Rattle.unix_names.specs.declared.Name.{Name}
 use Rattle.unix_names.specs.Names.{pid_of}
 use Rattle.record_bag.specs.declared.bag.Bag.{Bag}

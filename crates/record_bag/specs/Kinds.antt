@@ -1,5 +1,5 @@
 -- what is held under a name, by its kind
-use Rattle.std.specs.Prelude.{Option, Some, None}
+use Rattle.std.specs.Prelude.{Option, None}
 use Rattle.unix_names.specs.declared.Name.{Name}
 use Rattle.unix_names.specs.declared.Name.TheVariants as name
 use Rattle.vproc_record.specs.declared.Vproc.{Vproc}

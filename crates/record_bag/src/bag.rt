@@ -75,14 +75,26 @@ impl Bag {
         ensures err { OnErr result (self.new ≡ self.old) }
     {
         match name {
-            Name::V(pid) => match self.vprocs.put(pid, held.into_vproc()) {
-                Ok(_) => Ok(()),
-                Err(refused) => Err(Held::V(refused)),
-            },
-            Name::G(pid) => match self.groups.put(pid, held.into_group()) {
-                Ok(_) => Ok(()),
-                Err(refused) => Err(Held::G(refused)),
-            },
+            Name::V(pid) => {
+                let vproc = match held {
+                    Held::V(vproc) => vproc,
+                    Held::G(_) => None,
+                };
+                match self.vprocs.put(pid, vproc) {
+                    Ok(_) => Ok(()),
+                    Err(refused) => Err(Held::V(refused)),
+                }
+            }
+            Name::G(pid) => {
+                let group = match held {
+                    Held::V(_) => None,
+                    Held::G(group) => group,
+                };
+                match self.groups.put(pid, group) {
+                    Ok(_) => Ok(()),
+                    Err(refused) => Err(Held::G(refused)),
+                }
+            }
         }
     }
 

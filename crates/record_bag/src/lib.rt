@@ -3,8 +3,10 @@
 
 mod bag;
 mod held;
+mod present;
 mod vector;
 
 pub use bag::Bag;
 pub use held::Held;
+pub use present::record_mut;
 pub use vector::{Decided, OpVector, Outcome, Site};

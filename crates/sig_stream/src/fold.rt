@@ -1,8 +1,9 @@
 // The length of a stream, and its fold.
-ghost use Rattle.std.specs.Prelude.{◌≡◌, ◌≤◌, ◌<◌, ◌^◌, ◌++◌, ◌∷◌, List, length, drop, count_by};
+ghost use Rattle.std.specs.Prelude.{◌≡◌, ◌≤◌, ◌<◌, ◌^◌, ◌++◌, [], ◌∷◌, List, length, drop, count_by};
 ghost use Rattle.signal_state.specs.Sig.{generated_all};
 ghost use Rattle.group_record.specs.declared.LogEntry.{LogEntry as Entry};
 ghost use Rattle.group_record.specs.Log.{concerns};
+ghost use Rattle.group_record.specs.Groups.{settled};
 ghost use Rattle.sig_stream.specs.Streams.{stream, tail, signals_for};
 
 use group_record::{Group, LogEntry};
@@ -48,6 +49,20 @@ pub fn fold_all(own: &mut Own, v: &Vproc, g: &Group)
     let part = g.part_of(v.pid);
     let sig = generate_parts(own, v.backlog.as_slice(), part, v.pid, v.uid);
     *own = Own { sig, taken: 0 };
+}
+
+/// The same, and the stream is emptied: the backlog, and the process's part of the log. It takes no memory.
+pub fn fold_and_settle(own: &mut Own, v: &mut Vproc, g: &mut Group)
+    requires { own.old.taken ≤ length (stream v.old g.old) }
+    ensures own { own.new ≡ record { sig = generated_all own.old.sig (tail own.old.taken v.old g.old); taken = 0 } }
+    ensures process { v.new ≡ record v.old { backlog = [] } }
+    ensures group { g.new ≡ settled g.old v.old.pid }
+{
+    let from = g.settle_from(v.pid);
+    let part = g.entries_from(from);
+    let sig = generate_parts(own, v.backlog.as_slice(), part, v.pid, v.uid);
+    *own = Own { sig, taken: 0 };
+    v.backlog.clear();
 }
 
 // What the first signals leave, and the entries after them.

@@ -1,4 +1,4 @@
-use Rattle.std.proofs.Common.{◌≡◌, ◌<◌, ◌+◌, ap, ◌∙◌, sym, arith, length, slice_set, get_or}
+use Rattle.std.proofs.Common.{◌<◌, ap, ◌∙◌, arith, length, slice_set, get_or}
 use Rattle.std.proofs.lemmas.List.{get_or_default}
 use Rattle.std.proofs.lemmas.List.Edits.{map_over_more}
 use Rattle.group_record.specs.declared.member.Member.{Member}

@@ -1,5 +1,3 @@
-use Rattle.std.proofs.Common.{subst, sym}
-use Rattle.group_record.specs.Groups.{cut}
 use Rattle.group_record.proofs.MemberLaws.{cut-none}
 use Rattle.group_record.proofs.group.Group.cut.Goals as goal
 

@@ -1,6 +1,3 @@
-use Rattle.std.proofs.Common.{◌≡◌, [], ◌∷◌, ◌++◌, ap, ◌∙◌}
-use Rattle.group_record.specs.Log.{log_part}
-use Rattle.group_record.specs.Groups.{joined}
 use Rattle.group_record.proofs.LogLaws.{log_part-joined_own, log_part-joined_other}
 use Rattle.group_record.proofs.group.Group.join.Goals as goal
 

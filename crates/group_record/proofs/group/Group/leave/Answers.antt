@@ -1,5 +1,4 @@
-use Rattle.std.proofs.Common.{◌≡◌, ◌==◌, not, ap, ◌∙◌, rules}
-use Rattle.std.specs.Prelude.{filter}
+use Rattle.std.proofs.Common.{◌==◌, not, ap, ◌∙◌, rules}
 use Rattle.std.proofs.lemmas.Fn.{filter_same}
 use Rattle.group_record.specs.Log.{log_part}
 use Rattle.group_record.proofs.LogLaws.{log_part-left_other}

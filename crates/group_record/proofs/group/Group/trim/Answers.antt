@@ -1,4 +1,3 @@
-use Rattle.std.proofs.Common.{subst, sym, ap, ◌∙◌, ◌≤◌, length}
 use Rattle.group_record.proofs.LogLaws.{least_within, log_part-trimmed, within-trimmed}
 use Rattle.group_record.proofs.group.Group.trim.Goals as goal
 

@@ -1,5 +1,5 @@
-use Rattle.std.proofs.Common.{◌≡◌, ◌+◌, ◌≤◌, sym, ap, ◌∙◌, subst, arith, length, Some, None, slice_get}
-use Rattle.record_bag.proofs.NameLaws.{names_of, name-at_vproc, name-at_group, name-past, AreRising-names}
+use Rattle.std.proofs.Common.{arith}
+use Rattle.record_bag.proofs.NameLaws.{name-at_vproc, name-at_group, name-past, AreRising-names}
 use Rattle.record_bag.proofs.bag.Bag.name_at.Goals as goal
 
 pub returns-then-k-vprocs-clause-name : goal.returns-then-k-vprocs-clause-name
