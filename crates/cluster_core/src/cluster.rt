@@ -152,7 +152,7 @@ pub(crate) fn take<O: OpVector>(
 ///
 /// # Errors
 /// NoMemory where a node, or a wire to one, finds none. The places are of no use then: the node has failed for good, or what it sends has come in part.
-pub fn turn<O: OpVector>(
+pub(crate) fn turn<O: OpVector>(
     places: &mut Vec<Place<O>>,
     alloc: Global,
     world: &World,

@@ -7,6 +7,6 @@ mod playing;
 mod running_on;
 
 pub use arrivals::Arrivals;
-pub use cluster::{Place, first_places, turn};
+pub use cluster::{Place, first_places};
 pub use playing::{Played, run};
 pub use running_on::run_on;

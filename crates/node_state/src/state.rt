@@ -17,6 +17,8 @@ pub struct Sent {
 }
 
 /// All that a node holds. Between two turns nothing waits to be sent.
+///
+/// A call that answers NoMemory may have made a part of its change. The node has then failed for good, and its state is of no use.
 #[derive(Debug, Drop)]
 pub struct State {
     /// The number of the node.

@@ -1,7 +1,7 @@
 use script_words::{
     Fault, Kind, Verb, act_named, changes_in, ended, errno_named, is_minus_digits, is_skipped,
-    name, node, number, put_changes, put_members, put_signal, put_word, signal, signal_number,
-    verb_named, verb_word,
+    name, node, number, put_changes, put_members, put_number, put_signal, put_word, signal,
+    signal_number, verb_named, verb_word,
 };
 use std::test::Fail;
 use unix_names::{Act, Errno, SigSet, Signal};
@@ -95,7 +95,11 @@ fn puts_words(rt: HostRuntime) -> Result<(), Fail> {
     )?;
     put_signal(&mut text, 15)?;
     put_signal(&mut text, 77)?;
+    put_number(&mut text, 4_294_967_295)?;
     put_changes(&mut text, true, true)?;
-    assert_eq!(rt; text.as_str(), " mask HUP TERM TERM 77 stopped continued");
+    assert_eq!(rt;
+        text.as_str(),
+        " mask HUP TERM TERM 77 4294967295 stopped continued"
+    );
     Ok(())
 }
