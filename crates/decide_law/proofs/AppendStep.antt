@@ -37,7 +37,7 @@ use Rattle.decide_law.specs.Agrees.{vproc_at, group_at, IsRecordOf, VprocAgrees,
 use Rattle.decide_law.specs.Law.{Settled, next, sent_to, IsLegalOf, IsAnswerTo, IsNoBirth, IsStep}
 use Rattle.decide_law.specs.Places.{place_after, is_placed}
 use Rattle.decide_law.specs.Effects.{only, same, changed, told_to, append, decided_by, written}
-use Rattle.decide_law.proofs.Records.{pid_same, row_pid, only_keeps}
+use Rattle.decide_law.proofs.Records.{pid_same, row_pid, only_keeps, still_record}
 use Rattle.kernel_rules.specs.Events.{StaysStopped}
 use Rattle.decide_law.proofs.Phases.{lives_on}
 use Rattle.decide_law.proofs.Shell.{own_record, group_is}
@@ -58,18 +58,8 @@ pub receiving : (s : Row → List Signal) → KeepsPlace (receives s)
 receiving s = record { pid = λ x. refl; parent = λ x. refl; group = λ x. refl; session = λ x. refl; uid = λ x. refl; life = λ x. refl }
 
 pub record_received : (rows : List Row) (s : Row → List Signal) (y : Vproc) (x : Row) → IsRecordOf rows y x → IsRecordOf (map (receives s) rows) y (receives s x)
-record_received rows s y x of = record {
-  pid = of.pid;
-  parent = of.parent;
-  group = of.group;
-  session = of.session;
-  uid = of.uid;
-  life = of.life;
-  change = of.change;
-  execed = of.execed;
-  ignchld = of.ignchld ∙ ap (λ (n : ℕ). has n Chld) (sym (ignored_all x.sig (cond (is_living x.life) (s x) [])));
-  children = of.children ∙ sym (children_map rows (receives s) x.pid (receiving s));
-}
+record_received rows s y x of =
+    still_record rows (map (receives s) rows) y x (receives s x).sig y.ignchld y.children (of.ignchld ∙ ap (λ (n : ℕ). has n Chld) (sym (ignored_all x.sig (cond (is_living x.life) (s x) [])))) (of.children ∙ sym (children_map rows (receives s) x.pid (receiving s))) of
 
 pub vproc_received : (rows : List Row) (s : Row → List Signal) (q : Pid) (h : Option Vproc) → VprocAgrees rows h (row_of rows q) → VprocAgrees (map (receives s) rows) h (row_of (map (receives s) rows) q)
 vproc_received rows s q h a = subst (VprocAgrees (map (receives s) rows) h) (sym (row_map rows (receives s) q (receiving s))) (go h (row_of rows q) a)

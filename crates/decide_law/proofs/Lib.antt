@@ -34,3 +34,4 @@ pub mod ComingFirst
 pub mod Fitting
 pub mod CallNames
 pub mod Unsettled
+pub mod FewCounts

@@ -28,7 +28,7 @@ use Rattle.decide_law.specs.Nudges.{nudges_of}
 use Rattle.decide_law.specs.Places.{is_placed, place_after}
 use Rattle.decide_law.specs.Law.{Settled, next, sent_to, IsLegalOf, IsAnswerTo, IsNoBirth, IsStep}
 use Rattle.decide_law.specs.Effects.{only, same, quiet, plain, decided_by, written}
-use Rattle.decide_law.proofs.Records.{pid_same, row_pid}
+use Rattle.decide_law.proofs.Records.{pid_same, row_pid, still_record}
 use Rattle.decide_law.proofs.Plain.{KeepsPlace, row_map, children_map}
 use Rattle.decide_law.proofs.PlainStep.{stays_put, plain_step}
 use Rattle.ordered_table.specs.Entries.{with_each}
@@ -73,7 +73,7 @@ pub record IsOwnChange (rows : List Row) (p : Pid) (job : Job) (r : Row) (f : Ro
 
 -- the record of another process
 other_is : (rows : List Row) (f : Row → Row) (y : Vproc) (x : Row) → KeepsPlace f → IsRecordOf rows y x → IsRecordOf (map f rows) y x
-other_is rows f y x k of = record { pid = of.pid; parent = of.parent; group = of.group; session = of.session; uid = of.uid; life = of.life; change = of.change; execed = of.execed; ignchld = of.ignchld; children = of.children ∙ sym (children_map rows f x.pid k) }
+other_is rows f y x k of = still_record rows (map f rows) y x x.sig y.ignchld y.children of.ignchld (of.children ∙ sym (children_map rows f x.pid k)) of
 
 pub own_step : (rows : List Row) (p : Pid) (job : Job) (site : Site) (was : Signals) (bag : Bag) (r : Row) (v : Vproc) (g : Group) (f : Row → Row) (h : Vproc → Vproc) (e : Option Entry) (sig : Signals) → Settled rows p was bag r v g → is_stopped r.life ≡ false →
     IsOwnChange rows p job r f h e sig → IsStep rows (map f rows) p job site bag (decided_by (plain e sig phase.Ready p h)) (written (plain e sig phase.Ready p h) bag)
@@ -136,32 +136,11 @@ resigned_own r k = ap (λ (b : Bool). cond b (k r.sig) r.sig) (same_number r.pid
 pub resigned_other : (p : Pid) (k : Signals → Signals) (c : Row) → c.pid.0 ≢ p.0 → resigned_at p k c ≡ c
 resigned_other p k c ne = ap (λ (b : Bool). record c { sig = cond b (k c.sig) c.sig }) (ne_eqb c.pid.0 p.0 ne)
 
--- the record stays right where what is ignored stays
-pub resigned_kept : (rows : List Row) (r : Row) (k : Signals → Signals) (y : Vproc) → (k r.sig).ignored ≡ r.sig.ignored → IsRecordOf rows y r → IsRecordOf (map (resigned_at r.pid k) rows) y (resigned_at r.pid k r)
-resigned_kept rows r k y keeps of = record {
-  pid = of.pid;
-  parent = of.parent;
-  group = of.group;
-  session = of.session;
-  uid = of.uid;
-  life = of.life;
-  change = of.change;
-  execed = of.execed;
-  ignchld = of.ignchld ∙ ap (λ (n : ℕ). has n Chld) (sym (ap (λ (x : Signals). x.ignored) (resigned_own r k) ∙ keeps));
-  children = of.children ∙ sym (children_map rows (resigned_at r.pid k) r.pid (resigning r.pid k));
-}
-
--- and where it tells what is then ignored
+-- the record is right where it tells what is then ignored
 pub resigned_told : (rows : List Row) (r : Row) (k : Signals → Signals) (y : Vproc) (ignores : Bool) → ignores ≡ has (k r.sig).ignored Chld → IsRecordOf rows y r → IsRecordOf (map (resigned_at r.pid k) rows) (record y { ignchld = ignores }) (resigned_at r.pid k r)
-resigned_told rows r k y ignores is of = record {
-  pid = of.pid;
-  parent = of.parent;
-  group = of.group;
-  session = of.session;
-  uid = of.uid;
-  life = of.life;
-  change = of.change;
-  execed = of.execed;
-  ignchld = is ∙ ap (λ (x : Signals). has x.ignored Chld) (sym (resigned_own r k));
-  children = of.children ∙ sym (children_map rows (resigned_at r.pid k) r.pid (resigning r.pid k));
-}
+resigned_told rows r k y ignores is of =
+    still_record rows (map (resigned_at r.pid k) rows) y r (resigned_at r.pid k r).sig ignores y.children (is ∙ ap (λ (x : Signals). has x.ignored Chld) (sym (resigned_own r k))) (of.children ∙ sym (children_map rows (resigned_at r.pid k) r.pid (resigning r.pid k))) of
+
+-- it stays right where what is ignored stays
+pub resigned_kept : (rows : List Row) (r : Row) (k : Signals → Signals) (y : Vproc) → (k r.sig).ignored ≡ r.sig.ignored → IsRecordOf rows y r → IsRecordOf (map (resigned_at r.pid k) rows) y (resigned_at r.pid k r)
+resigned_kept rows r k y keeps of = resigned_told rows r k y y.ignchld (of.ignchld ∙ ap (λ (n : ℕ). has n Chld) (sym keeps)) of

@@ -14,7 +14,10 @@ use Rattle.group_record.specs.Groups.{settled, trimmed}
 use Rattle.group_record.proofs.LogLaws.{within-trimmed, within-settled}
 use Rattle.process_table.specs.declared.Row.{Row}
 use Rattle.process_table.specs.Rows.{row_of, in_group, AreDistinct}
-use Rattle.decide_law.specs.Agrees.{VprocAgrees, IsGroupOf, GroupAgrees}
+use Rattle.unix_names.specs.declared.Signal.TheVariants.{Chld}
+use Rattle.unix_names.specs.Sets.{has}
+use Rattle.signal_state.specs.Signals.{Signals}
+use Rattle.decide_law.specs.Agrees.{children_of, IsRecordOf, VprocAgrees, IsGroupOf, GroupAgrees}
 use Rattle.decide_law.specs.Effects.{only, emptied, settled_for}
 use Rattle.group_record.proofs.MemberLaws.{uid_of-kept, begun_at-number, begun_at-uid}
 
@@ -93,6 +96,21 @@ trimmed_agrees rows id (Some g) a = (not_empty (lowered (least_from g.members)) 
 pub settled_agrees : (rows : List Row) (id p : Pid) (h : Option Group) → GroupAgrees rows id h → GroupAgrees rows id (option_map (settled_for p) h)
 settled_agrees rows id p None a = a
 settled_agrees rows id p (Some g) a = (not_empty (begun_at (length g.log) p) g.members a.0, settled_group rows id p g a.1)
+
+-- a record is still that of a row, where the row's signals change, and its children
+pub still_record : (rows now : List Row) (y : Vproc) (x : Row) (sig : Signals) (ignores : Bool) (children : List Pid) → ignores ≡ has sig.ignored Chld → children ≡ children_of now x.pid → IsRecordOf rows y x → IsRecordOf now (record y { ignchld = ignores; children = children }) (record x { sig = sig })
+still_record rows now y x sig ignores children ignored kids of = record {
+  pid = of.pid;
+  parent = of.parent;
+  group = of.group;
+  session = of.session;
+  uid = of.uid;
+  life = of.life;
+  change = of.change;
+  execed = of.execed;
+  ignchld = ignored;
+  children = kids;
+}
 
 pub emptied_agrees : (rows : List Row) (h : Option Vproc) (o : Option Row) → VprocAgrees rows h o → VprocAgrees rows (option_map emptied h) o
 emptied_agrees rows None None a = a

@@ -31,6 +31,7 @@ use Rattle.decide_law.specs.Counts.{passes}
 use Rattle.decide_law.specs.Effects.{written, folded, emptied, settled_in, trimmed_in, done_by, on_base, regroups, unless_empty_by}
 use Rattle.decide_law.specs.Footprints.{is_none, end_footprint}
 use Rattle.decide_law.specs.MethodNeeds.{wanted}
+use Rattle.decide_law.proofs.FewCounts.{few_counts, held_group}
 use Rattle.decide_law.proofs.NeedParts.{asked_for, all_held}
 use Rattle.decide_law.proofs.RoundParts.{parts_whole, base_answer}
 use Rattle.decide_law.proofs.Records.{only_same}
@@ -56,15 +57,6 @@ children_left p false (c ∷ cs) = go (c.0 == p.0) (children_left p false cs)
     go : (b : Bool) → filter (λ c. not ((c.0 == p.0) && false)) cs ≡ cs → cond (not (b && false)) (c ∷ filter (λ c. not ((c.0 == p.0) && false)) cs) (filter (λ c. not ((c.0 == p.0) && false)) cs) ≡ c ∷ cs
     go true e = ap (λ l. c ∷ l) e
     go false e = ap (λ l. c ∷ l) e
-
--- ---- counts
-pub few_pass : {X : Type 0} (test : X → Bool) (xs : List X) → length (filter test xs) ≤ length xs
-few_pass test [] = omega arith
-few_pass test (x ∷ xs) = go (test x) (few_pass test xs)
-  where
-    go : (b : Bool) → length (filter test xs) ≤ length xs → length (cond b (x ∷ filter test xs) (filter test xs)) ≤ length (x ∷ xs)
-    go true h = omega arith
-    go false h = omega arith
 
 -- ---- records of groups: they are those of the definition
 group_same : (bag : Bag) (w : WaitStatus) (p parent : Pid) (children : List Pid) (vanished : Bool) (session id : Pid) (h : Option Group) →
@@ -116,22 +108,8 @@ told_and_untold bag near e id None = refl
 told_and_untold bag near e id (Some g) = ap (λ (l : List LogEntry). Some (record g { log = l })) (cut_back g.log (entries_by bag near e id g))
 
 -- ---- what is counted is small
-counted_group : (rows : List Row) (id : Pid) (g : Group) → length rows < 1000000 → IsGroupOf rows id g → IsCounted g
-counted_group rows id g few is = record {
-  links = let a = is.links in let b : links_in rows id ≤ length rows = few_pass _ rows in omega arith;
-  stopped = let a = is.stopped in let b : stopped_in rows id ≤ length rows = few_pass _ rows in omega arith;
-}
-
-counted_held : (rows : List Row) (bag : Bag) (id : Pid) (h : Option Group) → length rows < 1000000 → Agrees bag rows → group_at bag id ≡ Some h → IsCountedIn h
-counted_held rows bag id None few a e = tt
-counted_held rows bag id (Some g) few a e = counted_group rows id g few (group_is rows bag id g a e)
-
 counted_by_id : (rows : List Row) (bag : Bag) (id : Pid) → length rows < 1000000 → Agrees bag rows → IsCountedIn (group_in bag id)
-counted_by_id rows bag id few a = go (group_at bag id) refl
-  where
-    go : (o : Option (Option Group)) → group_at bag id ≡ o → IsCountedIn (present o)
-    go None e = tt
-    go (Some h) e = counted_held rows bag id h few a e
+counted_by_id rows bag id few a = held_group IsCountedIn rows bag id tt (λ g is. let counts = few_counts rows id g few is in record { links = counts.0; stopped = counts.1 }) a
 
 -- the settled bag of a question that fits
 pub settled_counted : (p id : Pid) (own : Own) (bag settled : Bag) → IsFitting p own bag → settled ≡ settled_in p id bag → (q : Pid) → IsCountedIn (group_in settled q)

@@ -12,23 +12,21 @@ use Rattle.record_bag.specs.Bags.{vproc_in}
 use Rattle.decide_law.specs.Counts.{passes, is_link_to, is_stopped_to, count_passing}
 use Rattle.ops_ending.specs.declared.left_vprocs.End.{End}
 use Rattle.ops_ending.specs.MethodEnding.{IsCounted, own_left, later_by, recounted_by}
-use Rattle.ops_ending.proofs.EndCode.{children_left, few_pass}
+use Rattle.decide_law.proofs.FewCounts.{few_passing}
+use Rattle.ops_ending.proofs.EndCode.{children_left}
 
 -- ---- counts
-pub few_counted : (bag : Bag) (test : Vproc → Bool) (near : List Pid) (n : ℕ) → n ≡ count_passing bag test near → length near ≤ 65 → n ≤ 65
-few_counted bag test near n is few = let h : count_passing bag test near ≤ length near = few_pass (λ q. passes test (vproc_in bag q)) near in omega arith
-
 -- the counts after the end are small where those before it are
 pub small_links : (bag : Bag) (near : List Pid) (e : End) (id : Pid) (g : Group) (n : ℕ) → IsCounted g → length near ≤ 65 → n ≡ (recounted_by bag near e id g).links → n < 2000000
 small_links bag near e id g n counted few is =
     let before = counted.links in
-    let more : count_passing (later_by bag e) (is_link_to (later_by bag e) id) near ≤ length near = few_pass (λ q. passes (is_link_to (later_by bag e) id) (vproc_in (later_by bag e) q)) near in
+    let more : count_passing (later_by bag e) (is_link_to (later_by bag e) id) near ≤ length near = few_passing (later_by bag e) (is_link_to (later_by bag e) id) near in
     omega arith
 
 pub small_stopped : (bag : Bag) (near : List Pid) (e : End) (id : Pid) (g : Group) (n : ℕ) → IsCounted g → length near ≤ 65 → n ≡ (recounted_by bag near e id g).stopped → n < 2000000
 small_stopped bag near e id g n counted few is =
     let before = counted.stopped in
-    let more : count_passing (later_by bag e) (is_stopped_to id) near ≤ length near = few_pass (λ q. passes (is_stopped_to id) (vproc_in (later_by bag e) q)) near in
+    let more : count_passing (later_by bag e) (is_stopped_to id) near ≤ length near = few_passing (later_by bag e) (is_stopped_to id) near in
     omega arith
 
 -- ---- processes

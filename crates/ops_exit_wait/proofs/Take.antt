@@ -37,7 +37,7 @@ use Rattle.decide_law.specs.Agrees.{vproc_at, group_at, children_of, IsRecordOf,
 use Rattle.decide_law.specs.Wakes.{report_in, seen_by}
 use Rattle.decide_law.specs.Law.{Settled, Grows, IsStep}
 use Rattle.decide_law.specs.Effects.{only, changed, decided_by, written}
-use Rattle.decide_law.proofs.Records.{number, pid_same, row_pid, only_same, only_other, member_has}
+use Rattle.decide_law.proofs.Records.{number, pid_same, row_pid, only_same, only_other, member_has, still_record}
 use Rattle.decide_law.proofs.Groups.{nobody, unless_empty_agrees, unless_empty_some}
 use Rattle.decide_law.proofs.Shell.{own_record}
 use Rattle.decide_law.proofs.Changes.{vproc_changed, group_changed, names_changed, agrees_changed}
@@ -45,29 +45,15 @@ use Rattle.ops_exit_wait.specs.Waitpid.{taken_vproc, leaves, take}
 use Rattle.ops_exit_wait.proofs.Taken.{Takes, gone, row_other, row_none, stays_there, children_gone, children_kept, group_gone, group_out}
 
 -- ---- records
-record_gone : (rows : List Row) (c : Pid) (y y' : Vproc) (d : Row) → IsRecordOf rows y d → (l : List Pid) → l ≡ children_of (gone c rows) d.pid → IsRecordOf (gone c rows) (record y { children = l }) d
-record_gone rows c y y' d of l e = record {
-  pid = of.pid;
-  parent = of.parent;
-  group = of.group;
-  session = of.session;
-  uid = of.uid;
-  life = of.life;
-  change = of.change;
-  execed = of.execed;
-  ignchld = of.ignchld;
-  children = e;
-}
-
 -- what is held under each name agrees with the table without the child
 pub vproc_gone : (rows : List Row) (p c q : Pid) (x : Row) (h : Option Vproc) → IsSound rows → row_of rows c ≡ Some x → x.parent ≡ p → VprocAgrees rows h (row_of rows q) → VprocAgrees (gone c rows) (taken_vproc p c q h) (row_of (gone c rows) q)
 vproc_gone rows p c q x h k here up a = pick (q.0 == c.0) refl
   where
     at_p : (y : Vproc) (d : Row) (b : Bool) → (q.0 == p.0) ≡ b → row_of rows q ≡ Some d → IsRecordOf rows y d → VprocAgrees (gone c rows) (cond b (Some (without_child y c)) (Some y)) (Some d)
-    at_p y d true e at_q of = record_gone rows c y y d of (without c y.children) (ap (without c) of.children ∙ sym (children_gone rows c d.pid k))
+    at_p y d true e at_q of = still_record rows (gone c rows) y d d.sig y.ignchld (without c y.children) of.ignchld (ap (without c) of.children ∙ sym (children_gone rows c d.pid k)) of
     at_p y d false e at_q of =
         let ne : x.parent.0 ≢ d.pid.0 = λ s. eqb-false _ _ e (sym (found number q.0 rows d at_q) ∙ sym s ∙ ap (λ (i : Pid). i.0) up) in
-        record_gone rows c y y d of y.children (of.children ∙ sym (children_kept rows c d.pid x k here ne))
+        still_record rows (gone c rows) y d d.sig y.ignchld y.children of.ignchld (of.children ∙ sym (children_kept rows c d.pid x k here ne)) of
 
     other : (h : Option Vproc) (o : Option Row) → row_of rows q ≡ o → VprocAgrees rows h o → VprocAgrees (gone c rows) (only p (option_map (λ v. without_child v c)) q h) o
     other None None e a = none (q.0 == p.0)

@@ -43,7 +43,7 @@ use Rattle.unix_names.specs.declared.Name.TheVariants.{V}
 use Rattle.signal_state.specs.declared.Own.{Own}
 use Rattle.decide_law.specs.Law.{Based, Settled, Grows, IsStep}
 use Rattle.decide_law.specs.Effects.{only, folded, emptied, settled_for, settled_in, decided_by, written, left_by}
-use Rattle.decide_law.proofs.Records.{number, distinct, pid_same, row_pid, only_same, only_other}
+use Rattle.decide_law.proofs.Records.{number, distinct, pid_same, row_pid, only_same, only_other, still_record}
 use Rattle.decide_law.proofs.Shell.{own_record, settling, shell}
 use Rattle.decide_law.proofs.Changes.{vproc_changed, group_changed, names_changed, agrees_changed, only_at_same, only_at_other}
 use Rattle.decide_law.proofs.ByName.{held_same_names}
@@ -88,30 +88,12 @@ module _ (rows : List Row) (r : Row) (fresh : Pid) (sound : IsSound rows) (absen
       at_q = ap (λ (i : Pid). i.0) (row_pid rows q x here)
 
       go : (b : Bool) → (q.0 == p.0) ≡ b → IsRecordOf (rows ++ newborn r fresh.0 ∷ []) (cond b (with_newborn fresh y) y) x
-      go true e = record {
-        pid = of.pid;
-        parent = of.parent;
-        group = of.group;
-        session = of.session;
-        uid = of.uid;
-        life = of.life;
-        change = of.change;
-        execed = of.execed;
-        ignchld = of.ignchld;
-        children = ap (λ l. l ++ fresh ∷ []) of.children ∙ sym (kids x.pid true (eq-eqb r.pid.0 x.pid.0 (sym own ∙ sym (eqb-true _ _ e) ∙ sym at_q)));
-      }
-      go false e = record {
-        pid = of.pid;
-        parent = of.parent;
-        group = of.group;
-        session = of.session;
-        uid = of.uid;
-        life = of.life;
-        change = of.change;
-        execed = of.execed;
-        ignchld = of.ignchld;
-        children = of.children ∙ sym (append-nil (children_of rows x.pid)) ∙ sym (kids x.pid false (ne_eqb r.pid.0 x.pid.0 (λ s. eqb-false _ _ e (sym at_q ∙ sym s ∙ sym own))));
-      }
+      go true e =
+          still_record rows (rows ++ newborn r fresh.0 ∷ []) y x x.sig y.ignchld (y.children ++ fresh ∷ []) of.ignchld
+          (ap (λ l. l ++ fresh ∷ []) of.children ∙ sym (kids x.pid true (eq-eqb r.pid.0 x.pid.0 (sym own ∙ sym (eqb-true _ _ e) ∙ sym at_q)))) of
+      go false e =
+          still_record rows (rows ++ newborn r fresh.0 ∷ []) y x x.sig y.ignchld y.children of.ignchld
+          (of.children ∙ sym (append-nil (children_of rows x.pid)) ∙ sym (kids x.pid false (ne_eqb r.pid.0 x.pid.0 (λ s. eqb-false _ _ e (sym at_q ∙ sym s ∙ sym own))))) of
 
   vproc_later : (p q : Pid) → p.0 ≡ r.pid.0 → q.0 ≢ fresh.0 → (h : Option Vproc) → VprocAgrees rows h (row_of rows q) → VprocAgrees (rows ++ newborn r fresh.0 ∷ []) (only p (option_map (with_newborn fresh)) q h) (row_of (rows ++ newborn r fresh.0 ∷ []) q)
   vproc_later p q own ne h a = subst (VprocAgrees (rows ++ newborn r fresh.0 ∷ []) (only p (option_map (with_newborn fresh)) q h)) (sym (row_other q ne)) (go h (row_of rows q) refl a)

@@ -1,5 +1,5 @@
--- what is looked up is the same before and after the caller has taken its stream
-use Rattle.std.proofs.Common.{◌≡◌, ◌==◌, ℕ, refl, ap, Option, None, Some, if◌then◌else◌}
+-- what is looked up is the same before and after the caller has taken its stream, and needs the same record in each column
+use Rattle.std.proofs.Common.{◌≡◌, ◌==◌, ◌∙◌, ℕ, refl, ap, Option, None, Some, if◌then◌else◌}
 use Rattle.std.specs.Option.{option_map}
 use Rattle.unix_names.specs.declared.Pid.{Pid}
 use Rattle.unix_names.specs.declared.Errno.TheVariants.{EPERM}
@@ -7,21 +7,28 @@ use Rattle.unix_calls.specs.declared.Reply.{Reply}
 use Rattle.unix_calls.specs.declared.Reply.TheVariants.{Number, Refused}
 use Rattle.vproc_record.specs.declared.Vproc.{Vproc}
 use Rattle.record_bag.specs.declared.bag.Bag.{Bag}
+use Rattle.record_bag.specs.Bags.{vproc_in}
 use Rattle.process_table.specs.Rows.{pid}
 use Rattle.decide_law.specs.Effects.{emptied, settled_in}
+use Rattle.decide_law.specs.Footprints.{look_footprint, call_footprint}
 use Rattle.decide_law.proofs.SettledFootprints.{view_same}
-use Rattle.ops_groups.specs.Lookups.{group_reply, session_reply, getpgid_reply, getsid_reply}
+use Rattle.ops_groups.specs.declared.lookups.Column.{Column}
+use Rattle.ops_groups.specs.declared.lookups.Column.TheVariants.{Group, Session}
+use Rattle.ops_groups.specs.Lookups.{column_of, column_call, column_reply, look_reply}
 
-group_blind : (h : Option Vproc) → group_reply (option_map emptied h) ≡ group_reply h
-group_blind None = refl
-group_blind (Some u) = refl
+column_blind : (column : Column) (v : Vproc) → column_of column (emptied v) ≡ column_of column v
+column_blind Group v = refl
+column_blind Session v = refl
 
-session_blind : (h : Option Vproc) → session_reply (option_map emptied h) ≡ session_reply h
-session_blind None = refl
-session_blind (Some u) = refl
+reply_blind : (column : Column) (h : Option Vproc) → column_reply column (option_map emptied h) ≡ column_reply column h
+reply_blind column None = refl
+reply_blind column (Some u) = ap (λ (q : Pid). Number q.0) (column_blind column u)
 
-pub getpgid_settled : (p id : Pid) (bag : Bag) (v : Vproc) (t : ℕ) → getpgid_reply (settled_in p id bag) (emptied v) t ≡ getpgid_reply bag v t
-getpgid_settled p id bag v t = ap (λ (r : Reply). if t == 0 then Number v.group.0 else (if t == 1 then Refused EPERM else r)) (view_same group_reply p id bag (pid t) group_blind)
+pub look_settled : (column : Column) (p id : Pid) (bag : Bag) (v : Vproc) (t : ℕ) → look_reply column (settled_in p id bag) (emptied v) t ≡ look_reply column bag v t
+look_settled column p id bag v t =
+    ap (λ (q : Pid). if t == 0 then Number q.0 else (if t == 1 then Refused EPERM else column_reply column (vproc_in (settled_in p id bag) (pid t)))) (column_blind column v)
+    ∙ ap (λ (r : Reply). if t == 0 then Number (column_of column v).0 else (if t == 1 then Refused EPERM else r)) (view_same (column_reply column) p id bag (pid t) (reply_blind column))
 
-pub getsid_settled : (p id : Pid) (bag : Bag) (v : Vproc) (t : ℕ) → getsid_reply (settled_in p id bag) (emptied v) t ≡ getsid_reply bag v t
-getsid_settled p id bag v t = ap (λ (r : Reply). if t == 0 then Number v.session.0 else (if t == 1 then Refused EPERM else r)) (view_same session_reply p id bag (pid t) session_blind)
+pub look_needs : (column : Column) (bag : Bag) (v : Vproc) (t : ℕ) → look_footprint t ≡ call_footprint bag v (column_call column t)
+look_needs Group bag v t = refl
+look_needs Session bag v t = refl

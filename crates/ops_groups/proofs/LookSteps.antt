@@ -36,17 +36,21 @@ use Rattle.decide_law.proofs.Records.{row_pid}
 use Rattle.decide_law.proofs.Counts.{told_held}
 use Rattle.decide_law.proofs.ReplyStep.{chosen_legal, reply_step}
 use Rattle.decide_law.proofs.Shell.{own_record}
-use Rattle.ops_groups.specs.Lookups.{group_reply, session_reply, getpgid_reply, getsid_reply}
+use Rattle.ops_groups.specs.declared.lookups.Column.{Column}
+use Rattle.ops_groups.specs.declared.lookups.Column.TheVariants as columns
+use Rattle.ops_groups.specs.Lookups.{column_of, column_call, column_reply, look_reply, look_effect}
 
-group_told : (rows : List Row) (h : Option Vproc) (o : Option Row) → VprocAgrees rows h o → group_reply h ≡ choice.refused_or (if is_none_of o then Some ESRCH else None) (choice.group_reply o)
-group_told rows None None a = refl
-group_told rows None (Some x) a = absurd a
-group_told rows (Some u) None a = absurd a
-group_told rows (Some u) (Some x) a = ap (λ (q : Pid). Number q.0) a.group
-
-group_is : (rows : List Row) (bag : Bag) (v : Vproc) (r : Row) (t : ℕ) → Agrees bag rows → IsRecordOf rows v r → EachHeld bag (look_footprint t) → getpgid_reply bag v t ≡ reply_of rows r (Getpgid t) 0
-group_is rows bag v r t a of held = go (t == 0) (t == 1) refl refl
+-- what a look-up replies is what the one kernel replies, where the record tells what the row does
+look_is : (column : Column) (answer : Option Row → Reply) (rows : List Row) (bag : Bag) (v : Vproc) (r : Row) (t : ℕ) → ((u : Vproc) (x : Row) → IsRecordOf rows u x → Number (column_of column u).0 ≡ answer (Some x)) → Agrees bag rows → IsRecordOf rows v r → EachHeld bag (look_footprint t) →
+    look_reply column bag v t ≡ choice.refused_or (if t == 1 then Some EPERM else (if is_none_of (if t == 0 then Some r else row_of rows (pid t)) then Some ESRCH else None)) (answer (if t == 0 then Some r else row_of rows (pid t)))
+look_is column answer rows bag v r t same a of held = go (t == 0) (t == 1) refl refl
   where
+    told : (h : Option Vproc) (o : Option Row) → VprocAgrees rows h o → column_reply column h ≡ choice.refused_or (if is_none_of o then Some ESRCH else None) (answer o)
+    told None None a = refl
+    told None (Some x) a = absurd a
+    told (Some u) None a = absurd a
+    told (Some u) (Some x) a = same u x a
+
     there : (t == 0) ≡ false → (t == 1) ≡ false → is_some (vproc_at bag (pid t)) ≡ true
     there z o = first (nat_lt 1 t) refl held
       where
@@ -54,35 +58,12 @@ group_is rows bag v r t a of held = go (t == 0) (t == 1) refl refl
         first true e h = h.0
         first false e h = let le = ltb-false _ _ e in let nz = eqb-false _ _ z in let no_one = eqb-false _ _ o in absurd (omega arith)
 
-    go : (x y : Bool) → (t == 0) ≡ x → (t == 1) ≡ y → (if x then Number v.group.0 else (if y then Refused EPERM else group_reply (vproc_in bag (pid t)))) ≡
-        choice.refused_or (if y then Some EPERM else (if is_none_of (if x then Some r else row_of rows (pid t)) then Some ESRCH else None)) (choice.group_reply (if x then Some r else row_of rows (pid t)))
+    go : (x y : Bool) → (t == 0) ≡ x → (t == 1) ≡ y → (if x then Number (column_of column v).0 else (if y then Refused EPERM else column_reply column (vproc_in bag (pid t)))) ≡
+        choice.refused_or (if y then Some EPERM else (if is_none_of (if x then Some r else row_of rows (pid t)) then Some ESRCH else None)) (answer (if x then Some r else row_of rows (pid t)))
     go true true ex ey = let z = eqb-true _ _ ex in let o = eqb-true _ _ ey in absurd (omega arith)
-    go true false ex ey = ap (λ (q : Pid). Number q.0) of.group
+    go true false ex ey = same v r of
     go false true ex ey = refl
-    go false false ex ey = group_told rows (vproc_in bag (pid t)) (row_of rows (pid t)) (told_held rows bag (pid t) a.vprocs (there ex ey))
-
-session_told : (rows : List Row) (h : Option Vproc) (o : Option Row) → VprocAgrees rows h o → session_reply h ≡ choice.refused_or (if is_none_of o then Some ESRCH else None) (choice.session_reply o)
-session_told rows None None a = refl
-session_told rows None (Some x) a = absurd a
-session_told rows (Some u) None a = absurd a
-session_told rows (Some u) (Some x) a = ap (λ (q : Pid). Number q.0) a.session
-
-session_is : (rows : List Row) (bag : Bag) (v : Vproc) (r : Row) (t : ℕ) → Agrees bag rows → IsRecordOf rows v r → EachHeld bag (look_footprint t) → getsid_reply bag v t ≡ reply_of rows r (Getsid t) 0
-session_is rows bag v r t a of held = go (t == 0) (t == 1) refl refl
-  where
-    there : (t == 0) ≡ false → (t == 1) ≡ false → is_some (vproc_at bag (pid t)) ≡ true
-    there z o = first (nat_lt 1 t) refl held
-      where
-        first : (b : Bool) → nat_lt 1 t ≡ b → EachHeld bag (if b then V (pid t) ∷ [] else []) → is_some (vproc_at bag (pid t)) ≡ true
-        first true e h = h.0
-        first false e h = let le = ltb-false _ _ e in let nz = eqb-false _ _ z in let no_one = eqb-false _ _ o in absurd (omega arith)
-
-    go : (x y : Bool) → (t == 0) ≡ x → (t == 1) ≡ y → (if x then Number v.session.0 else (if y then Refused EPERM else session_reply (vproc_in bag (pid t)))) ≡
-        choice.refused_or (if y then Some EPERM else (if is_none_of (if x then Some r else row_of rows (pid t)) then Some ESRCH else None)) (choice.session_reply (if x then Some r else row_of rows (pid t)))
-    go true true ex ey = let z = eqb-true _ _ ex in let o = eqb-true _ _ ey in absurd (omega arith)
-    go true false ex ey = ap (λ (q : Pid). Number q.0) of.session
-    go false true ex ey = refl
-    go false false ex ey = session_told rows (vproc_in bag (pid t)) (row_of rows (pid t)) (told_held rows bag (pid t) a.vprocs (there ex ey))
+    go false false ex ey = told (vproc_in bag (pid t)) (row_of rows (pid t)) (told_held rows bag (pid t) a.vprocs (there ex ey))
 
 -- a call that only tells something
 tell_step : (rows : List Row) (p : Pid) (site : Site) (at : Option NodeId) (sig : Signals) (bag : Bag) (r : Row) (v : Vproc) (g : Group) (call : Call) (reply : Reply) → Settled rows p sig bag r v g → is_stopped r.life ≡ false → deliverable sig ≡ 0 →
@@ -102,50 +83,26 @@ getppid_is_step rows p site at sig bag r v g a alive clear held =
     tell_step rows p site at sig bag r v g Getppid (Number v.parent.0) a alive clear (λ f. cc) (ap (λ (q : Pid). Number q.0) (own_record rows p bag r v a.agrees a.row a.vproc).parent)
     (ap (λ o. after_at rows o (Called p Getppid (Number v.parent.0))) a.row) (λ c. ap (λ o. sent_at rows o (Called p Getppid (Number v.parent.0)) c) a.row) (λ was here. refl) refl (λ before left. refl) tt
 
-group_unplaced : (t : ℕ) (reply : Reply) → is_placed_call reply (Getpgid t) ≡ false
-group_unplaced t (replies.Number n) = refl
-group_unplaced t replies.Fine = refl
-group_unplaced t replies.NoReply = refl
-group_unplaced t replies.Again = refl
-group_unplaced t (replies.Set set) = refl
-group_unplaced t (replies.Child c w) = refl
-group_unplaced t (replies.Refused e) = refl
+look_unplaced : (column : Column) (t : ℕ) (reply : Reply) → is_placed_call reply (column_call column t) ≡ false
+look_unplaced columns.Group t (Number n) = refl
+look_unplaced columns.Group t _ = refl
+look_unplaced columns.Session t (Number n) = refl
+look_unplaced columns.Session t _ = refl
 
-group_nobody : (rows : List Row) (p : Pid) (before left : Bag) (t : ℕ) (reply : Reply) → call_nudges rows rows p before left reply (Getpgid t) ≡ []
-group_nobody rows p before left t (replies.Number n) = refl
-group_nobody rows p before left t replies.Fine = refl
-group_nobody rows p before left t replies.NoReply = refl
-group_nobody rows p before left t replies.Again = refl
-group_nobody rows p before left t (replies.Set set) = refl
-group_nobody rows p before left t (replies.Child c w) = refl
-group_nobody rows p before left t (replies.Refused e) = refl
+look_nobody : (column : Column) (rows : List Row) (p : Pid) (before left : Bag) (t : ℕ) (reply : Reply) → call_nudges rows rows p before left reply (column_call column t) ≡ []
+look_nobody columns.Group rows p before left t (Number n) = refl
+look_nobody columns.Group rows p before left t _ = refl
+look_nobody columns.Session rows p before left t (Number n) = refl
+look_nobody columns.Session rows p before left t _ = refl
 
-pub getpgid_is_step : (t : ℕ) → IsCallStep (Getpgid t) (λ bag sig p v. replied p (Getpgid t) (getpgid_reply bag v t) sig)
+pub getpgid_is_step : (t : ℕ) → IsCallStep (Getpgid t) (look_effect columns.Group t)
 getpgid_is_step t rows p site at sig bag r v g a alive clear held =
-    tell_step rows p site at sig bag r v g (Getpgid t) (getpgid_reply bag v t) a alive clear (λ f. cc) (group_is rows bag v r t a.agrees (own_record rows p bag r v a.agrees a.row a.vproc) held)
-    (ap (λ o. after_at rows o (Called p (Getpgid t) (getpgid_reply bag v t))) a.row) (λ c. ap (λ o. sent_at rows o (Called p (Getpgid t) (getpgid_reply bag v t)) c) a.row) (λ was here. refl) (group_unplaced t (getpgid_reply bag v t))
-    (λ before left. group_nobody rows p before left t (getpgid_reply bag v t)) tt
+    let reply = look_reply columns.Group bag v t in
+    tell_step rows p site at sig bag r v g (Getpgid t) reply a alive clear (λ f. cc) (look_is columns.Group choice.group_reply rows bag v r t (λ u x of. ap (λ (q : Pid). Number q.0) of.group) a.agrees (own_record rows p bag r v a.agrees a.row a.vproc) held)
+    (ap (λ o. after_at rows o (Called p (Getpgid t) reply)) a.row) (λ c. ap (λ o. sent_at rows o (Called p (Getpgid t) reply) c) a.row) (λ was here. refl) (look_unplaced columns.Group t reply) (λ before left. look_nobody columns.Group rows p before left t reply) tt
 
-session_unplaced : (t : ℕ) (reply : Reply) → is_placed_call reply (Getsid t) ≡ false
-session_unplaced t (replies.Number n) = refl
-session_unplaced t replies.Fine = refl
-session_unplaced t replies.NoReply = refl
-session_unplaced t replies.Again = refl
-session_unplaced t (replies.Set set) = refl
-session_unplaced t (replies.Child c w) = refl
-session_unplaced t (replies.Refused e) = refl
-
-session_nobody : (rows : List Row) (p : Pid) (before left : Bag) (t : ℕ) (reply : Reply) → call_nudges rows rows p before left reply (Getsid t) ≡ []
-session_nobody rows p before left t (replies.Number n) = refl
-session_nobody rows p before left t replies.Fine = refl
-session_nobody rows p before left t replies.NoReply = refl
-session_nobody rows p before left t replies.Again = refl
-session_nobody rows p before left t (replies.Set set) = refl
-session_nobody rows p before left t (replies.Child c w) = refl
-session_nobody rows p before left t (replies.Refused e) = refl
-
-pub getsid_is_step : (t : ℕ) → IsCallStep (Getsid t) (λ bag sig p v. replied p (Getsid t) (getsid_reply bag v t) sig)
+pub getsid_is_step : (t : ℕ) → IsCallStep (Getsid t) (look_effect columns.Session t)
 getsid_is_step t rows p site at sig bag r v g a alive clear held =
-    tell_step rows p site at sig bag r v g (Getsid t) (getsid_reply bag v t) a alive clear (λ f. cc) (session_is rows bag v r t a.agrees (own_record rows p bag r v a.agrees a.row a.vproc) held)
-    (ap (λ o. after_at rows o (Called p (Getsid t) (getsid_reply bag v t))) a.row) (λ c. ap (λ o. sent_at rows o (Called p (Getsid t) (getsid_reply bag v t)) c) a.row) (λ was here. refl) (session_unplaced t (getsid_reply bag v t))
-    (λ before left. session_nobody rows p before left t (getsid_reply bag v t)) tt
+    let reply = look_reply columns.Session bag v t in
+    tell_step rows p site at sig bag r v g (Getsid t) reply a alive clear (λ f. cc) (look_is columns.Session choice.session_reply rows bag v r t (λ u x of. ap (λ (q : Pid). Number q.0) of.session) a.agrees (own_record rows p bag r v a.agrees a.row a.vproc) held)
+    (ap (λ o. after_at rows o (Called p (Getsid t) reply)) a.row) (λ c. ap (λ o. sent_at rows o (Called p (Getsid t) reply) c) a.row) (λ was here. refl) (look_unplaced columns.Session t reply) (λ before left. look_nobody columns.Session rows p before left t reply) tt

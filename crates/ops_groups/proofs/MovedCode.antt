@@ -27,6 +27,7 @@ use Rattle.decide_law.specs.Effects.{only, or_empty, unless_empty, regroups, set
 use Rattle.decide_law.proofs.Changes.{group_changed}
 use Rattle.decide_law.proofs.Records.{pid_same}
 use Rattle.decide_law.proofs.SettledGroups.{group_seen}
+use Rattle.decide_law.proofs.FewCounts.{few_counts, held_group}
 use Rattle.decide_law.proofs.Shell.{group_is}
 use Rattle.decide_law.specs.Vector.{IsFitting}
 use Rattle.ops_groups.specs.Move.{GroupInSession, moved_vproc, moved_vprocs, moved_members, moved_group}
@@ -41,37 +42,10 @@ some_there None h = cc
 some_there (Some x) h = (x, refl)
 
 -- ---- counts
-few_pass : {X : Type 0} (test : X → Bool) (xs : List X) → length (filter test xs) ≤ length xs
-few_pass test [] = omega arith
-few_pass test (x ∷ xs) = go (test x) (few_pass test xs)
-  where
-    go : (b : Bool) → length (filter test xs) ≤ length xs → length (cond b (x ∷ filter test xs) (filter test xs)) ≤ length (x ∷ xs)
-    go true h = omega arith
-    go false h = omega arith
-
-pub few_counted : (bag : Bag) (test : Vproc → Bool) (near : List Pid) (n : ℕ) → n ≡ count_passing bag test near → length near ≤ 65 → n ≤ 65
-few_counted bag test near n is few = let h : count_passing bag test near ≤ length near = few_pass (λ q. passes test (vproc_in bag q)) near in omega arith
-
-counted_group : (rows : List Row) (id : Pid) (g : Group) → length rows < 1000000 → IsGroupOf rows id g → IsCounted g
-counted_group rows id g few is = record {
-  links = let a = is.links in let b : links_in rows id ≤ length rows = few_pass _ rows in omega arith;
-  stopped = let a = is.stopped in let b : stopped_in rows id ≤ length rows = few_pass _ rows in omega arith;
-}
-
-counted_held : (rows : List Row) (bag : Bag) (id : Pid) (h : Option Group) → length rows < 1000000 → Agrees bag rows → group_at bag id ≡ Some h → IsCountedIn h
-counted_held rows bag id None few a e = tt
-counted_held rows bag id (Some g) few a e = counted_group rows id g few (group_is rows bag id g a e)
-
-counted_by_id : (rows : List Row) (bag : Bag) (id : Pid) → length rows < 1000000 → Agrees bag rows → IsCountedIn (group_in bag id)
-counted_by_id rows bag id few a = go (group_at bag id) refl
-  where
-    go : (o : Option (Option Group)) → group_at bag id ≡ o → IsCountedIn (present o)
-    go None e = tt
-    go (Some h) e = counted_held rows bag id h few a e
-
 -- a question that fits
 pub fits_counted : (p : Pid) (own : Own) (bag : Bag) → IsFitting p own bag → (q : Pid) → IsCountedIn (group_in bag q)
-fits_counted p own bag fit q = counted_by_id fit.fits.rows bag q fit.fits.asks.few fit.fits.asks.agrees
+fits_counted p own bag fit q =
+    held_group IsCountedIn fit.fits.rows bag q tt (λ g is. let counts = few_counts fit.fits.rows q g fit.fits.asks.few is in record { links = counts.0; stopped = counts.1 }) fit.fits.asks.agrees
 
 -- once the caller has taken its part of the log of its group
 pub settled_counted : (p id : Pid) (bag : Bag) → ((q : Pid) → IsCountedIn (group_in bag q)) → (q : Pid) → IsCountedIn (group_in (group_settled p id bag) q)

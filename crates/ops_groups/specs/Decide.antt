@@ -6,7 +6,8 @@ use Rattle.unix_calls.specs.declared.Reply.TheVariants.{Number}
 use Rattle.unix_calls.specs.declared.Phase.TheVariants as phase
 use Rattle.decide_law.specs.Effects.{quiet, replied}
 use Rattle.decide_law.specs.Parts.{CallEffect, IsCallAnswered}
-use Rattle.ops_groups.specs.Lookups.{getpgid_reply, getsid_reply}
+use Rattle.ops_groups.specs.declared.lookups.Column.TheVariants.{Group, Session}
+use Rattle.ops_groups.specs.Lookups.{look_effect}
 use Rattle.ops_groups.specs.Setpgid.{setpgid_effect}
 use Rattle.ops_groups.specs.Setsid.{setsid_effect}
 
@@ -24,8 +25,8 @@ IsGroupsCall _ = ⊥
 abbrev pub effect_of : Call → CallEffect
 effect_of Getpid bag sig p v = replied p Getpid (Number p.0) sig
 effect_of Getppid bag sig p v = replied p Getppid (Number v.parent.0) sig
-effect_of (Getpgid t) bag sig p v = replied p (Getpgid t) (getpgid_reply bag v t) sig
-effect_of (Getsid t) bag sig p v = replied p (Getsid t) (getsid_reply bag v t) sig
+effect_of (Getpgid t) bag sig p v = look_effect Group t bag sig p v
+effect_of (Getsid t) bag sig p v = look_effect Session t bag sig p v
 effect_of (Setpgid t q) bag sig p v = setpgid_effect bag sig p v t q
 effect_of Setsid bag sig p v = setsid_effect bag sig p v
 effect_of _ bag sig p v = quiet None sig phase.Ready

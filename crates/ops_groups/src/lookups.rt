@@ -8,7 +8,7 @@ ghost use Rattle.decide_law.specs.Base.{HasBase};
 ghost use Rattle.decide_law.specs.Footprints.{look_footprint};
 ghost use Rattle.decide_law.specs.MethodNeeds.{wanted};
 ghost use Rattle.decide_law.specs.Parts.{decide_by};
-ghost use Rattle.ops_groups.specs.Lookups.{group_reply, session_reply, getpgid_reply, getsid_reply};
+ghost use Rattle.ops_groups.specs.Lookups.{column_of, column_call, column_reply, look_reply, look_effect};
 ghost use Rattle.ops_groups.specs.Decide.{effect_of};
 
 use decide_law::{done_quiet, is_none, want};
@@ -17,6 +17,36 @@ use signal_state::Own;
 use std::alloc::Global;
 use unix_calls::{Call, Entry, Phase, Reply};
 use unix_names::{Errno, Name, NoMemory, Pid, Seq};
+use vproc_record::Vproc;
+
+// What getpgid and getsid tell of a process.
+#[derive(Clone, Copy)]
+enum Column {
+    Group,
+    Session,
+}
+
+impl Column {
+    // What stands there of this process.
+    fn of(self, v: &Vproc) -> Pid
+        ensures { result ≡ column_of self v.now }
+    {
+        match self {
+            Column::Group => v.group,
+            Column::Session => v.session,
+        }
+    }
+
+    // The call that tells it.
+    fn call(self, target: u32) -> Call
+        ensures { result ≡ column_call self target }
+    {
+        match self {
+            Column::Group => Call::Getpgid(target),
+            Column::Session => Call::Getsid(target),
+        }
+    }
+}
 
 /// Decides getpid. It takes no memory.
 pub fn decide_getpid(alloc: Global, pid: Pid, own: &Own, bag: &mut Bag) -> Outcome
@@ -67,25 +97,52 @@ fn look_names(alloc: Global, bag: &Bag, target: u32) -> Result<Seq<Name>, NoMemo
     Ok(names)
 }
 
-fn group_reply(bag: &Bag, pid: Pid) -> Reply
-    ensures { result ≡ group_reply (vproc_in bag.now pid) }
+fn column_reply(column: Column, bag: &Bag, pid: Pid) -> Reply
+    ensures { result ≡ column_reply column (vproc_in bag.now pid) }
 {
     match bag.vproc(pid) {
         None => Reply::Refused(Errno::ESRCH),
-        Some(v) => Reply::Number(v.group.0),
+        Some(v) => Reply::Number(column.of(v).0),
     }
 }
 
-fn getpgid_reply(bag: &Bag, caller: Pid, target: u32) -> Reply
-    ensures { (v : TheVproc) → vproc_in bag.now caller ≡ Some v → result ≡ getpgid_reply bag.now v target }
+fn look_reply(column: Column, bag: &Bag, caller: Pid, target: u32) -> Reply
+    ensures { (v : TheVproc) → vproc_in bag.now caller ≡ Some v → result ≡ look_reply column bag.now v target }
 {
     if target == 0 {
-        group_reply(bag, caller)
+        column_reply(column, bag, caller)
     } else if target == 1 {
         Reply::Refused(Errno::EPERM)
     } else {
-        group_reply(bag, Pid(target))
+        column_reply(column, bag, Pid(target))
     }
+}
+
+// Decides a look-up: asks for the record of another process, or answers what stands there.
+fn decide_look(
+    alloc: Global,
+    pid: Pid,
+    column: Column,
+    target: u32,
+    own: &Own,
+    bag: &mut Bag,
+) -> Result<Outcome, NoMemory>
+    requires { HasBase own.now pid bag.old }
+    ensures answer { IfOk result (λ outcome. answered outcome bag.new ≡ decide_by (column_call column target) (look_effect column target) pid own.now bag.old) }
+    ensures err { OnErr result (bag.new ≡ bag.old) }
+{
+    let names = look_names(alloc, bag, target)?;
+    if !is_none(&names) {
+        return Ok(Outcome::Need(names));
+    }
+    let reply = look_reply(column, bag, pid, target);
+    let call = column.call(target);
+    let entry = Entry::Called {
+        caller: pid,
+        call,
+        reply,
+    };
+    Ok(done_quiet(alloc, *own, pid, bag, Some(entry), Phase::Ready))
 }
 
 /// Decides getpgid: asks for the record of another process, or answers the group.
@@ -103,38 +160,7 @@ pub fn decide_getpgid(
     ensures answer { IfOk result (λ outcome. answered outcome bag.new ≡ decide_by (calls.Getpgid target) (effect_of (calls.Getpgid target)) pid own.now bag.old) }
     ensures err { OnErr result (bag.new ≡ bag.old) }
 {
-    let names = look_names(alloc, bag, target)?;
-    if !is_none(&names) {
-        return Ok(Outcome::Need(names));
-    }
-    let reply = getpgid_reply(bag, pid, target);
-    let entry = Entry::Called {
-        caller: pid,
-        call: Call::Getpgid(target),
-        reply,
-    };
-    Ok(done_quiet(alloc, *own, pid, bag, Some(entry), Phase::Ready))
-}
-
-fn session_reply(bag: &Bag, pid: Pid) -> Reply
-    ensures { result ≡ session_reply (vproc_in bag.now pid) }
-{
-    match bag.vproc(pid) {
-        None => Reply::Refused(Errno::ESRCH),
-        Some(v) => Reply::Number(v.session.0),
-    }
-}
-
-fn getsid_reply(bag: &Bag, caller: Pid, target: u32) -> Reply
-    ensures { (v : TheVproc) → vproc_in bag.now caller ≡ Some v → result ≡ getsid_reply bag.now v target }
-{
-    if target == 0 {
-        session_reply(bag, caller)
-    } else if target == 1 {
-        Reply::Refused(Errno::EPERM)
-    } else {
-        session_reply(bag, Pid(target))
-    }
+    decide_look(alloc, pid, Column::Group, target, own, bag)
 }
 
 /// Decides getsid: asks for the record of another process, or answers the session.
@@ -152,15 +178,5 @@ pub fn decide_getsid(
     ensures answer { IfOk result (λ outcome. answered outcome bag.new ≡ decide_by (calls.Getsid target) (effect_of (calls.Getsid target)) pid own.now bag.old) }
     ensures err { OnErr result (bag.new ≡ bag.old) }
 {
-    let names = look_names(alloc, bag, target)?;
-    if !is_none(&names) {
-        return Ok(Outcome::Need(names));
-    }
-    let reply = getsid_reply(bag, pid, target);
-    let entry = Entry::Called {
-        caller: pid,
-        call: Call::Getsid(target),
-        reply,
-    };
-    Ok(done_quiet(alloc, *own, pid, bag, Some(entry), Phase::Ready))
+    decide_look(alloc, pid, Column::Session, target, own, bag)
 }

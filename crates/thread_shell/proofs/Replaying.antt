@@ -20,7 +20,8 @@ use Rattle.run_shell.specs.Replay.{WritesRun}
 use Rattle.run_shell.proofs.Runs.{same_run}
 use Rattle.thread_shell.specs.Served.{served_text}
 use Rattle.thread_shell.specs.Laws.{WrittenSchedulesAreRead, WrittenSchedulesReplay}
-use Rattle.thread_shell.proofs.ServedLines.{AreInWorld, turn_lines, served_part}
+use Rattle.thread_shell.proofs.ServedLines.{AreInWorld, served_part}
+use Rattle.run_text.proofs.ScheduleLaws.{turn-lines}
 use Rattle.thread_shell.proofs.Serving.{made_inside, few_nodes}
 
 has_nodes : (world : World) (t : Turn) → IsInWorld world t → HasNodes world.nodes t
@@ -47,7 +48,7 @@ written_are_read input output file s few same_world same_schedule no_history =
       means = record {
         world = subst (λ (ls : Lines). IsFile ls world) (sym same_world) file_is;
         turns = ap (turns_given world.nodes (schedule_first file)) part
-            ∙ ap (schedule world.nodes (schedule_first file)) (sym (turn_lines steps))
+            ∙ ap (schedule world.nodes (schedule_first file)) (sym (turn-lines steps))
             ∙ schedule-written world.nodes (schedule_first file) steps (omega (arith, nodes)) (all_have world steps inside) few;
       };
       no_history = no_history;

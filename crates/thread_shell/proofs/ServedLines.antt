@@ -1,51 +1,25 @@
 -- the schedule part of what is written of a history and its turns has the lines of the turns
-use Rattle.std.proofs.Common.{◌≡◌, ℕ, ◌<◌, ◌^◌, Bool, true, false, cond, not, List, [], ◌∷◌, ◌++◌, map, Some, refl, ap, sym, subst, ◌∙◌, append_assoc, append-nil, codes, arith}
+use Rattle.std.proofs.Common.{◌≡◌, ℕ, ◌<◌, ◌^◌, Bool, true, false, cond, not, List, [], ◌∷◌, ◌++◌, map, Some, refl, ap, sym, subst, ◌∙◌, append_assoc, codes, arith}
 use Rattle.std.specs.List.{flat_map}
 use Rattle.std.specs.Fmt.{decimal}
 use Rattle.std.proofs.lemmas.List.Sums.{take_while-cons}
-use Rattle.byte_ends.specs.Text.{lines, words}
+use Rattle.byte_ends.specs.Text.{lines}
 use Rattle.unix_calls.specs.declared.Entry.{Entry}
 use Rattle.unix_calls.specs.declared.Turn.{Turn}
 use Rattle.unix_calls.specs.declared.Turn.TheVariants.{Go, Push, Take, Auto}
 use Rattle.unix_calls.specs.declared.World.{World}
 use Rattle.file_parts.specs.Parts.{Lines, before, behind, stands_alone, is_only, schedule_lines}
 use Rattle.script_words.specs.Words.{Row}
-use Rattle.text_laws.specs.Plain.{is_plain, are_plain}
-use Rattle.text_laws.proofs.Lines.{AreLines, lines-written}
-use Rattle.text_laws.proofs.Words.{words-spaced, line-spaced}
 use Rattle.text_laws.proofs.Numbers.{IsNumber-decimal, digits_value-decimal}
 use Rattle.run_text.specs.Faults.{Spells, SaysTurn}
+use Rattle.run_text.proofs.ScheduleLaws.{turn-row, turn-lines}
 use Rattle.run_text.specs.Schedule.{turn_word, turn_words, turn_line, schedule_text}
 use Rattle.histories.specs.History.{line_of, last_line}
-use Rattle.histories.proofs.WrittenLaws.{cut}
+use Rattle.histories.proofs.WrittenLaws.{entry_line, entry_lines, entry_not_only, cut}
 use Rattle.cluster_state.specs.Possible.{IsInWorld}
 use Rattle.thread_shell.specs.Served.{SayTurns, served_text}
-use Rattle.thread_shell.proofs.Digits.{plain_number}
-use Rattle.thread_shell.proofs.EntryLines.{entry_line, entry_lines, entry_not_only}
 
 -- ---- the lines of turns
-plain_verb : (t : Turn) → is_plain (turn_word t) ≡ true
-plain_verb (Go n) = refl
-plain_verb (Push n k) = refl
-plain_verb (Take n m) = refl
-plain_verb (Auto k) = refl
-
-plain_numbers : (t : Turn) → are_plain (turn_words t) ≡ true
-plain_numbers (Go n) = rw (plain_number n) refl
-plain_numbers (Push n k) = rw (plain_number n, plain_number k) refl
-plain_numbers (Take n m) = rw (plain_number n, plain_number m) refl
-plain_numbers (Auto k) = rw (plain_number k) refl
-
-turn_row : (t : Turn) → words (turn_line t) ≡ turn_word t ∷ turn_words t
-turn_row t = words-spaced (turn_word t) (turn_words t) (plain_verb t) (plain_numbers t)
-
-are_lines : (ts : List Turn) → AreLines turn_line ts
-are_lines [] = tt
-are_lines (t ∷ ts) = (line-spaced (turn_word t) (turn_words t) (plain_verb t) (plain_numbers t), are_lines ts)
-
-pub turn_lines : (ts : List Turn) → lines (schedule_text ts) ≡ map turn_line ts
-turn_lines ts = ap lines (sym (append-nil (schedule_text ts))) ∙ lines-written turn_line ts [] (are_lines ts) ∙ append-nil (map turn_line ts)
-
 turn_long : (word : List ℕ) (t : Turn) → stands_alone word (turn_word t ∷ turn_words t) ≡ false
 turn_long word (Go n) = refl
 turn_long word (Push n k) = refl
@@ -53,7 +27,7 @@ turn_long word (Take n m) = refl
 turn_long word (Auto k) = refl
 
 turn_not_only : (word : List ℕ) (t : Turn) → is_only word (turn_line t) ≡ false
-turn_not_only word t = ap (stands_alone word) (turn_row t) ∙ turn_long word t
+turn_not_only word t = ap (stands_alone word) (turn-row t) ∙ turn_long word t
 
 -- ---- what each of them says
 spells : (n : ℕ) → n < 2 ^ 32 → Spells (decimal n) n
@@ -73,7 +47,7 @@ row_says world (Auto k) few h = absurd h
 pub lines_say : (world : World) (ts : List Turn) → world.nodes < 2 ^ 32 → AreInWorld world ts → SayTurns (map turn_line ts) ts
 lines_say world [] few h = tt
 lines_say world (t ∷ ts) few h = (
-  subst (λ (row : Row). SaysTurn row t) (sym (turn_row t)) (row_says world t few h.0),
+  subst (λ (row : Row). SaysTurn row t) (sym (turn-row t)) (row_says world t few h.0),
   lines_say world ts few h.1,
 )
 
@@ -134,7 +108,7 @@ served_lines es quiet ts =
     ap lines (append_assoc (flat_map line_of es) (last_line quiet) rest)
     ∙ entry_lines es (last_line quiet ++ rest)
     ∙ ap (λ (ls : Lines). map entry_line es ++ ls) (last_cut quiet rest
-    ∙ ap (λ (ls : Lines). last_word quiet ∷ ls) (cut (codes "schedule") [] (schedule_text ts) refl refl ∙ ap (λ (ls : Lines). codes "schedule" ∷ ls) (turn_lines ts)))
+    ∙ ap (λ (ls : Lines). last_word quiet ∷ ls) (cut (codes "schedule") [] (schedule_text ts) refl refl ∙ ap (λ (ls : Lines). codes "schedule" ∷ ls) (turn-lines ts)))
 
 no_history : (es : List Entry) (quiet : Bool) (ts : List Turn) → NoneIs (is_only (codes "history")) (all_lines es quiet ts)
 no_history es quiet ts =

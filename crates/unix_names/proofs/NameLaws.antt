@@ -1,6 +1,6 @@
 -- names stand in one order, which has no two names at one place
 use Rattle.std.proofs.Common.{ℕ, ◌⊎◌, inl, inr, ◌≡◌, ◌<◌, refl, arith, ap}
-use Rattle.std.proofs.lemmas.Bool.{cases_eq, ltb-true, lt-ltb}
+use Rattle.std.proofs.lemmas.Bool.{ltb-true, lt-ltb}
 use Rattle.unix_names.specs.Names.{IsBefore}
 use Rattle.unix_names.specs.declared.names.Name.{Name}
 use Rattle.unix_names.specs.declared.names.Name.TheVariants.{V, G}

@@ -5,75 +5,24 @@ use Rattle.std.specs.Int.{bit_at}
 use Rattle.std.proofs.lemmas.Nat.Bits.{bit_at_or, bit_at_and, bit_at_xor, bit_at-lt, bit_at-zero, bit_at-pow_same, bit_at-pow_other, bit_at_not, same_from_bits, same_from_bits_below}
 use Rattle.std.proofs.lemmas.Nat.{and_le_l}
 use Rattle.std.specs.Int.{w32}
-use Rattle.std.specs.Prelude.{IsSome, IsNone, Some, None, find, ◌↔◌}
+use Rattle.std.specs.Prelude.{Some, None, find}
 use Rattle.unix_names.specs.Sets.{has, added, removed, minus, IsSignals, IsLeast}
 use Rattle.unix_names.specs.Signals.{number_of, signal_of, all_signals}
 use Rattle.unix_names.proofs.SignalLaws.{signal_of-number_of, number_of-signal_of, find-passes, first-least, none-passes, all_rising, all_listed}
 use Rattle.unix_names.specs.declared.signals.Signal.{Signal}
-use Rattle.unix_names.specs.declared.signals.Signal.TheVariants.{Hup, Int, Quit, Abrt, Kill, Usr1, Usr2, Pipe, Alrm, Term, Chld, Cont, Stop, Tstp, Ttin, Ttou, Urg}
+use Rattle.unix_names.specs.declared.signals.Signal.TheVariants.{Hup}
 
 pub number_small : (s : Signal) → number_of s < 24
-number_small s = elim s as (λ s. number_of s < 24) [
-  | Hup ↦ lit< tt
-  | Int ↦ lit< tt
-  | Quit ↦ lit< tt
-  | Abrt ↦ lit< tt
-  | Kill ↦ lit< tt
-  | Usr1 ↦ lit< tt
-  | Usr2 ↦ lit< tt
-  | Pipe ↦ lit< tt
-  | Alrm ↦ lit< tt
-  | Term ↦ lit< tt
-  | Chld ↦ lit< tt
-  | Cont ↦ lit< tt
-  | Stop ↦ lit< tt
-  | Tstp ↦ lit< tt
-  | Ttin ↦ lit< tt
-  | Ttou ↦ lit< tt
-  | Urg ↦ lit< tt
-]
+number_small Hup = lit< tt
+number_small _ = lit< tt
 
 pub shl_number : (s : Signal) → 1 * 2 ^ number_of s % 4294967296 ≡ 2 ^ number_of s
-shl_number s = elim s as (λ s. 1 * 2 ^ number_of s % 4294967296 ≡ 2 ^ number_of s) [
-  | Hup ↦ refl
-  | Int ↦ refl
-  | Quit ↦ refl
-  | Abrt ↦ refl
-  | Kill ↦ refl
-  | Usr1 ↦ refl
-  | Usr2 ↦ refl
-  | Pipe ↦ refl
-  | Alrm ↦ refl
-  | Term ↦ refl
-  | Chld ↦ refl
-  | Cont ↦ refl
-  | Stop ↦ refl
-  | Tstp ↦ refl
-  | Ttin ↦ refl
-  | Ttou ↦ refl
-  | Urg ↦ refl
-]
+shl_number Hup = refl
+shl_number _ = refl
 
 pub pow_small : (s : Signal) → 2 ^ number_of s < 16777216
-pow_small s = elim s as (λ s. 2 ^ number_of s < 16777216) [
-  | Hup ↦ lit< tt
-  | Int ↦ lit< tt
-  | Quit ↦ lit< tt
-  | Abrt ↦ lit< tt
-  | Kill ↦ lit< tt
-  | Usr1 ↦ lit< tt
-  | Usr2 ↦ lit< tt
-  | Pipe ↦ lit< tt
-  | Alrm ↦ lit< tt
-  | Term ↦ lit< tt
-  | Chld ↦ lit< tt
-  | Cont ↦ lit< tt
-  | Stop ↦ lit< tt
-  | Tstp ↦ lit< tt
-  | Ttin ↦ lit< tt
-  | Ttou ↦ lit< tt
-  | Urg ↦ lit< tt
-]
+pow_small Hup = lit< tt
+pow_small _ = lit< tt
 
 -- ---- what a changed set has
 bit_one : (n k : ℕ) → (bit_at n k ≡ 0) ⊎ (bit_at n k ≡ 1)

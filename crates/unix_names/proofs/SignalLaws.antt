@@ -1,14 +1,13 @@
 -- numbers and words tell signals apart, and the first of those in order is the least
-use Rattle.std.proofs.Common.{◌⊎◌, inl, inr, ◌≡◌, ◌≢◌, ◌↔◌, ◌==◌, ◌&&◌, ◌||◌, ◌≤◌, ◌<◌, nat_le, ℕ, Bool, true, false, cond, List, [], ◌∷◌, Option, Some, None, refl, sym, ◌∙◌, ap, arith, lit<}
-use Rattle.std.specs.Prelude.{find, IsTrue, IfSome, IsNone}
-use Rattle.std.specs.List.{list_any}
-use Rattle.std.proofs.lemmas.Bool.{cases_eq, eq-eqb, ne_eqb}
+use Rattle.std.proofs.Common.{inl, inr, ◌≡◌, ◌≢◌, ◌↔◌, ◌==◌, ◌&&◌, ◌||◌, ◌≤◌, nat_le, ℕ, Bool, true, false, cond, List, [], ◌∷◌, Some, None, refl, sym, ◌∙◌, ap, arith}
+use Rattle.std.specs.Prelude.{find, IsNone}
+use Rattle.std.proofs.lemmas.Bool.{cases_eq}
 use Rattle.std.proofs.lemmas.Bool.Decides.{nat_tests}
 use Rattle.std.specs.Str.{bytes_eq}
 use Rattle.std.specs.Cmp.Lexicographic.{same_text}
 use Rattle.unix_names.specs.Signals.{number_of, word_of, all_signals, signal_of, signal_named}
 use Rattle.unix_names.specs.declared.signals.Signal.{Signal}
-use Rattle.unix_names.specs.declared.signals.Signal.TheVariants.{Hup, Int, Quit, Abrt, Kill, Usr1, Usr2, Pipe, Alrm, Term, Chld, Cont, Stop, Tstp, Ttin, Ttou, Urg}
+use Rattle.unix_names.specs.declared.signals.Signal.TheVariants.{Hup}
 
 -- what a search finds passes its test
 pub find-passes : {X : Type 0} (p : X → Bool) (xs : List X) (x : X) → find p xs ≡ Some x → p x ≡ true
@@ -22,25 +21,8 @@ find-passes {X} p (y ∷ ys) x e =
 -- the signal of a signal's number is that signal
 pub signal_of-number_of : (s : Signal) → signal_of (number_of s) ≡ Some s
 unfolding signal_of
-signal_of-number_of s = elim s as (λ s. find (λ t. number_of t == number_of s) all_signals ≡ Some s) [
-  | Hup ↦ refl
-  | Int ↦ refl
-  | Quit ↦ refl
-  | Abrt ↦ refl
-  | Kill ↦ refl
-  | Usr1 ↦ refl
-  | Usr2 ↦ refl
-  | Pipe ↦ refl
-  | Alrm ↦ refl
-  | Term ↦ refl
-  | Chld ↦ refl
-  | Cont ↦ refl
-  | Stop ↦ refl
-  | Tstp ↦ refl
-  | Ttin ↦ refl
-  | Ttou ↦ refl
-  | Urg ↦ refl
-]
+signal_of-number_of Hup = refl
+signal_of-number_of _ = refl
 
 -- a number's signal has that number
 pub number_of-signal_of : (n : ℕ) (s : Signal) → signal_of n ≡ Some s → number_of s ≡ n
@@ -70,25 +52,8 @@ signal_of-none n = (
 -- the signal of a signal's word is that signal
 pub signal_named-word_of : (s : Signal) → signal_named (word_of s) ≡ Some s
 unfolding signal_named
-signal_named-word_of s = elim s as (λ s. find (λ t. bytes_eq (word_of t) (word_of s)) all_signals ≡ Some s) [
-  | Hup ↦ refl
-  | Int ↦ refl
-  | Quit ↦ refl
-  | Abrt ↦ refl
-  | Kill ↦ refl
-  | Usr1 ↦ refl
-  | Usr2 ↦ refl
-  | Pipe ↦ refl
-  | Alrm ↦ refl
-  | Term ↦ refl
-  | Chld ↦ refl
-  | Cont ↦ refl
-  | Stop ↦ refl
-  | Tstp ↦ refl
-  | Ttin ↦ refl
-  | Ttou ↦ refl
-  | Urg ↦ refl
-]
+signal_named-word_of Hup = refl
+signal_named-word_of _ = refl
 
 -- a word's signal has that word
 pub word_of-signal_named : (word : List ℕ) (s : Signal) → signal_named word ≡ Some s → word_of s ≡ word
@@ -184,22 +149,5 @@ all_rising = refl
 
 pub all_listed : (t : Signal) → listed t all_signals ≡ true
 unfolding listed
-all_listed t = elim t as (λ t. listed t all_signals ≡ true) [
-  | Hup ↦ refl
-  | Int ↦ refl
-  | Quit ↦ refl
-  | Abrt ↦ refl
-  | Kill ↦ refl
-  | Usr1 ↦ refl
-  | Usr2 ↦ refl
-  | Pipe ↦ refl
-  | Alrm ↦ refl
-  | Term ↦ refl
-  | Chld ↦ refl
-  | Cont ↦ refl
-  | Stop ↦ refl
-  | Tstp ↦ refl
-  | Ttin ↦ refl
-  | Ttou ↦ refl
-  | Urg ↦ refl
-]
+all_listed Hup = refl
+all_listed _ = refl

@@ -1,7 +1,7 @@
 use Rattle.std.proofs.Common.{◌≤◌, arith}
 use Rattle.decide_law.specs.Counts.{is_stopped_to}
 use Rattle.ops_ending.specs.MethodEnding.{later_by}
-use Rattle.ops_ending.proofs.EndParts.{few_counted}
+use Rattle.decide_law.proofs.FewCounts.{few_counted}
 use Rattle.ops_ending.proofs.left_groups.stopped_after.Goals as goal
 
 pub overflow_add-from : goal.overflow_add-from

@@ -1,7 +1,7 @@
 use Rattle.std.proofs.Common.{◌≤◌, ap, arith}
 use Rattle.decide_law.specs.Counts.{is_link_to, is_stopped_to}
 use Rattle.ops_groups.specs.declared.tallies.Counts.{Counts}
-use Rattle.ops_groups.proofs.MovedCode.{few_counted}
+use Rattle.decide_law.proofs.FewCounts.{few_counted}
 use Rattle.ops_groups.proofs.tallies.recount.Goals as goal
 
 pub counted-g-requires : goal.counted-g-requires
