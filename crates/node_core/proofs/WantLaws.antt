@@ -4,16 +4,21 @@ use Rattle.std.specs.Prelude.{is_none}
 use Rattle.std.proofs.lemmas.Bool.{eq-eqb, ne_eqb}
 use Rattle.unix_names.specs.declared.Name.{Name}
 use Rattle.unix_names.specs.Names.{home}
+use Rattle.unix_names.specs.declared.Pid.{Pid}
+use Rattle.vproc_record.specs.declared.Vproc.{Vproc}
+use Rattle.group_record.specs.declared.Group.{Group}
+use Rattle.ordered_table.specs.declared.Entry.{Entry}
+use Rattle.ordered_table.specs.Entries.{with_value}
 use Rattle.record_bag.specs.declared.Held.{Held}
+use Rattle.record_bag.specs.declared.Held.TheVariants as held
 use Rattle.record_bag.specs.declared.Bag.{Bag}
 use Rattle.record_bag.specs.Bags.{with_held}
 use Rattle.record_table.specs.declared.Slot.{Slot}
 use Rattle.record_table.specs.declared.Slot.TheVariants.{Home, Out}
 use Rattle.record_table.specs.declared.Slots.{Slots}
 use Rattle.record_table.specs.declared.Line.{Line}
-use Rattle.record_table.specs.declared.Taken.TheVariants as answer
-use Rattle.record_table.specs.Places.{nobody, joined, line_of, taken, is_out_slot}
-use Rattle.record_table.specs.Slots.{slot_at, with_slot, after_take, is_out}
+use Rattle.record_table.specs.Places.{nobody, joined, line_of, is_out_slot}
+use Rattle.record_table.specs.Slots.{slot_at, with_slot, is_out, process, resting, group_name, resting_group}
 use Rattle.courier_core.specs.declared.Courier.{Courier}
 use Rattle.courier_core.specs.Couriers.{next_want, must_restart}
 use Rattle.node_state.specs.declared.State.{State}
@@ -30,42 +35,38 @@ elsewhere : (b : Bool) (x y z : Stepped) → b ≡ false → x ≡ z → x ≡ (
 elsewhere true x y z e same = cc
 elsewhere false x y z e same = same
 
-here-by : (s : State) (c : Courier) (x : Name) (h : Held) (slots : Slots Courier) (bag : Bag) (a : Slot Held (Line Courier)) → answer.Here h ≡ taken a → slots ≡ after_take s.slots x a → bag ≡ with_held c.bag x h →
+here-by : (s : State) (c : Courier) (x : Name) (h : Held) (slots : Slots Courier) (bag : Bag) (a : Slot Held (Line Courier)) → a ≡ Home h → slots ≡ with_slot s.slots x (Out nobody) → bag ≡ with_held c.bag x h →
     is_stepped (record s { slots = slots }) (Again (record c { bag = bag })) ≡ wanted_at s c x a
-here-by s c x h slots bag (Home k) told is got =
-    let same : h ≡ k = cc in
+here-by s c x h slots bag a rests is got =
     ap (λ z. is_stepped (record s { slots = z }) (Again (record c { bag = bag }))) is
-    ∙ ap (λ b. is_stepped (record s { slots = with_slot s.slots x (Out nobody) }) (Again (record c { bag = b }))) (got ∙ ap (with_held c.bag x) same)
-here-by s c x h slots bag (Out line) told is got = cc
+    ∙ (ap (λ b. is_stepped (record s { slots = with_slot s.slots x (Out nobody) }) (Again (record c { bag = b }))) got
+    ∙ sym (ap (wanted_at s c x) rests))
+
+-- a process's record is taken
+pub take-vproc : (s : State) (c : Courier) (p : Pid) (v : Option Vproc) (slots : Slots Courier) (vprocs : List (Entry (Option Vproc))) →
+    slot_at s.slots (process p) ≡ resting v → slots ≡ with_slot s.slots (process p) (Out nobody) → vprocs ≡ with_value c.bag.vprocs p v →
+    is_stepped (record s { slots = slots }) (Again (record c { bag = record c.bag { vprocs = vprocs } })) ≡ wanted_at s c (process p) (slot_at s.slots (process p))
+take-vproc s c p v slots vprocs rests is got =
+    here-by s c (process p) (held.V v) slots (record c.bag { vprocs = vprocs }) (slot_at s.slots (process p)) rests is (ap (λ z. record c.bag { vprocs = z }) got)
+
+-- a group's record is taken
+pub take-group : (s : State) (c : Courier) (p : Pid) (g : Option Group) (slots : Slots Courier) (groups : List (Entry (Option Group))) →
+    slot_at s.slots (group_name p) ≡ resting_group g → slots ≡ with_slot s.slots (group_name p) (Out nobody) → groups ≡ with_value c.bag.groups p g →
+    is_stepped (record s { slots = slots }) (Again (record c { bag = record c.bag { groups = groups } })) ≡ wanted_at s c (group_name p) (slot_at s.slots (group_name p))
+take-group s c p g slots groups rests is got =
+    here-by s c (group_name p) (held.G g) slots (record c.bag { groups = groups }) (slot_at s.slots (group_name p)) rests is (ap (λ z. record c.bag { groups = z }) got)
 
 -- the record is here
-pub want-here : (s : State) (c : Courier) (x : Name) (h : Held) (slots : Slots Courier) (bag : Bag) → home x s.nodes ≡ s.id → answer.Here h ≡ taken (slot_at s.slots x) → slots ≡ after_take s.slots x (slot_at s.slots x) → bag ≡ with_held c.bag x h →
-    is_stepped (record s { slots = slots }) (Again (record c { bag = bag })) ≡ wanted s c x
-want-here s c x h slots bag at told is got = at-home (home x s.nodes == s.id) _ (wanted_at s c x (slot_at s.slots x)) _ (eq-eqb (home x s.nodes) s.id at) (here-by s c x h slots bag (slot_at s.slots x) told is got)
+pub want-here : (s : State) (c : Courier) (x : Name) (y : Stepped) → home x s.nodes ≡ s.id → y ≡ wanted_at s c x (slot_at s.slots x) → y ≡ wanted s c x
+want-here s c x y at is = at-home (home x s.nodes == s.id) _ (wanted_at s c x (slot_at s.slots x)) _ (eq-eqb (home x s.nodes) s.id at) is
 
-out-by : (a : Slot Held (Line Courier)) → answer.Out ≡ taken a → is_out_slot a ≡ true
-out-by (Home h) told = cc
-out-by (Out line) told = refl
-
-taken-out-by : (s : Slots Courier) (x : Name) (a : Slot Held (Line Courier)) → answer.Out ≡ taken a → after_take s x a ≡ s
-taken-out-by s x (Home h) told = cc
-taken-out-by s x (Out line) told = refl
-
--- who is told that the record is out may wait
-pub may-wait : (s mid : Slots Courier) (x : Name) → answer.Out ≡ taken (slot_at s x) → mid ≡ after_take s x (slot_at s x) → is_out mid x ≡ true
-may-wait s mid x told is = ap (λ t. is_out t x) (is ∙ taken-out-by s x (slot_at s x) told) ∙ out-by (slot_at s x) told
-
-waits-by : (s : State) (c : Courier) (x : Name) (new : Slots Courier) (a : Slot Held (Line Courier)) → answer.Out ≡ taken a → new ≡ with_slot s.slots x (Out (joined (line_of a) c)) → is_stepped (record s { slots = new }) (Over None) ≡ wanted_at s c x a
-waits-by s c x new (Home h) told is = cc
-waits-by s c x new (Out line) told is = ap (λ z. is_stepped (record s { slots = z }) (Over None)) is
+waits-by : (s : State) (c : Courier) (x : Name) (a : Slot Held (Line Courier)) → is_out_slot a ≡ true → is_stepped (record s { slots = with_slot s.slots x (Out (joined (line_of a) c)) }) (Over None) ≡ wanted_at s c x a
+waits-by s c x (Home h) out = cc
+waits-by s c x (Out line) out = refl
 
 -- the record is out
-pub want-waits : (s : State) (c : Courier) (x : Name) (mid : Slots Courier) → home x s.nodes ≡ s.id → answer.Out ≡ taken (slot_at s.slots x) → mid ≡ after_take s.slots x (slot_at s.slots x) →
-    left_to_do (record s { slots = mid }) c (next.Wait x) ≡ wanted s c x
-want-waits s c x mid at told same =
-    let stays = same ∙ taken-out-by s.slots x (slot_at s.slots x) told in
-    at-home (home x s.nodes == s.id) _ (wanted_at s c x (slot_at s.slots x)) _ (eq-eqb (home x s.nodes) s.id at)
-    (waits-by s c x (with_slot mid x (Out (joined (line_of (slot_at mid x)) c))) (slot_at s.slots x) told (ap (λ t. with_slot t x (Out (joined (line_of (slot_at t x)) c))) stays))
+pub want-waits : (s : State) (c : Courier) (x : Name) → home x s.nodes ≡ s.id → is_out s.slots x ≡ true → left_to_do s c (next.Wait x) ≡ wanted s c x
+want-waits s c x at out = want-here s c x _ at (waits-by s c x (slot_at s.slots x) out)
 
 -- its home is another node
 pub want-rides : (s : State) (c : Courier) (x : Name) → home x s.nodes ≢ s.id → left_to_do s c (next.Ride (home x s.nodes)) ≡ wanted s c x

@@ -1,17 +1,16 @@
 // What a courier does at a node.
-ghost use Rattle.std.specs.Prelude.{◌≡◌, ℕ, true, None, Some, IfOk, IfSome, OnOk};
+ghost use Rattle.std.specs.Prelude.{◌≡◌, ℕ, true, false, None, Some, IfOk, IfSome, OnOk};
 ghost use Rattle.courier_core.specs.declared.Message.TheVariants.{Ride};
-ghost use Rattle.record_table.specs.Slots.{is_out};
+ghost use Rattle.record_table.specs.Slots.{is_out, slot_at, process, group_name};
 ghost use Rattle.node_state.specs.Wires.{posted};
 ghost use Rattle.node_core.specs.declared.step.Step.TheVariants.{Again};
-ghost use Rattle.node_core.specs.Advance.{site_of, is_stepped, needed, restarted, wanted, advanced, is_advanced};
+ghost use Rattle.node_core.specs.Advance.{site_of, is_stepped, needed, restarted, wanted_at, wanted, advanced, is_advanced};
 ghost use Rattle.node_core.specs.MethodAsking.{left_to_do, waiting_for, CanWaitNext};
 ghost use Rattle.node_core.specs.Conditions.{CanGoOn};
 
 use courier_core::{Courier, Message};
 use node_state::State;
 use record_bag::{Bag, OpVector, Outcome, Site};
-use record_table::Taken;
 use std::alloc::Global;
 use std::mem;
 use unix_calls::{Entry, World};
@@ -45,6 +44,55 @@ fn site_of(state: &State) -> Option<Site>
     })
 }
 
+/// A courier takes a process's record that rests here.
+fn take_vproc(
+    alloc: Global,
+    state: &mut State,
+    courier: &mut Courier,
+    pid: Pid,
+) -> Result<(), NoMemory>
+    requires { is_out state.old.slots (process pid) ≡ false }
+    ensures { OnOk result (is_stepped state.new (Again courier.new) ≡ wanted_at state.old courier.old (process pid) (slot_at state.old.slots (process pid))) }
+{
+    match state.slots.take_vproc(alloc, pid) {
+        Ok(vproc) => match courier.bag.vprocs.put(pid, vproc) {
+            Ok(_) => Ok(()),
+            Err(_) => Err(NoMemory),
+        },
+        Err(refused) => Err(refused),
+    }
+}
+
+/// A courier takes a group's record that rests here.
+fn take_group(
+    alloc: Global,
+    state: &mut State,
+    courier: &mut Courier,
+    leader: Pid,
+) -> Result<(), NoMemory>
+    requires { is_out state.old.slots (group_name leader) ≡ false }
+    ensures { OnOk result (is_stepped state.new (Again courier.new) ≡ wanted_at state.old courier.old (group_name leader) (slot_at state.old.slots (group_name leader))) }
+{
+    match state.slots.take_group(alloc, leader) {
+        Ok(group) => match courier.bag.groups.put(leader, group) {
+            Ok(_) => Ok(()),
+            Err(_) => Err(NoMemory),
+        },
+        Err(refused) => Err(refused),
+    }
+}
+
+/// A courier takes a record that rests here.
+fn take(alloc: Global, state: &mut State, courier: &mut Courier, name: Name) -> Result<(), NoMemory>
+    requires { is_out state.old.slots name ≡ false }
+    ensures { OnOk result (is_stepped state.new (Again courier.new) ≡ wanted_at state.old courier.old name (slot_at state.old.slots name)) }
+{
+    match name {
+        Name::V(pid) => take_vproc(alloc, state, courier, pid),
+        Name::G(leader) => take_group(alloc, state, courier, leader),
+    }
+}
+
 /// A courier takes a record that is here; else it is told where to ride or that it has to wait.
 fn want(
     alloc: Global,
@@ -59,14 +107,11 @@ fn want(
     if home != state.id {
         return Ok(Next::Ride(home));
     }
-    match state.slots.take(alloc, name) {
-        Ok(Taken::Here(held)) => match courier.bag.put(name, held) {
-            Ok(()) => Ok(Next::Again),
-            Err(_) => Err(NoMemory),
-        },
-        Ok(Taken::Out) => Ok(Next::Wait(name)),
-        Err(refused) => Err(refused),
+    if state.slots.is_out(name) {
+        return Ok(Next::Wait(name));
     }
+    take(alloc, state, courier, name)?;
+    Ok(Next::Again)
 }
 
 /// A courier returns all that it holds and begins anew, with what it then knows that it wants.

@@ -1,7 +1,7 @@
 // The turns of a node's state.
 ghost use Rattle.std.specs.Prelude.{◌≡◌, ℕ, Some, IfOk};
 ghost use Rattle.node_core.specs.Advance.{is_advanced};
-ghost use Rattle.node_core.specs.Turns.{courier_with, courier_of, going, pushed, arriving, came};
+ghost use Rattle.node_core.specs.Turns.{courier_with, going, pushed, arriving, came};
 ghost use Rattle.node_core.specs.Conditions.{CanSetOut};
 ghost use Rattle.node_core.specs.Views.{IsLed};
 
@@ -25,19 +25,6 @@ fn courier_with(alloc: Global, image: Image, job: Job) -> Courier
     }
 }
 
-/// The courier of who has waited for a turn: an image sets out with its next job.
-fn courier_of(alloc: Global, world: &World, waiting: Waiting) -> Courier
-    ensures { result ≡ courier_of world.now waiting }
-{
-    match waiting {
-        Waiting::Image(image) => {
-            let job = image.next_job(world);
-            courier_with(alloc, image, job)
-        }
-        Waiting::Courier(courier) => courier,
-    }
-}
-
 /// The first of the ready queue has its turn. None where nobody stands there.
 pub fn go<O: OpVector>(
     ops: &O,
@@ -48,11 +35,15 @@ pub fn go<O: OpVector>(
     requires { CanSetOut (O.fits ops.now) world.now (O.answer ops.now) (going world.now state.old) }
     ensures { IfOk result (λ turn. IsLed world.now (O.answer ops.now) (going world.now state.old) state.old state.new turn) }
 {
-    let Some(waiting) = state.ready.pop() else {
-        return Ok(None);
-    };
-    let courier = courier_of(alloc, world, waiting);
-    Ok(Some(advance(ops, alloc, world, state, courier)?))
+    match state.ready.pop() {
+        Some(Waiting::Image(image)) => {
+            let job = image.next_job(world);
+            let courier = courier_with(alloc, image, job);
+            Ok(Some(advance(ops, alloc, world, state, courier)?))
+        }
+        Some(Waiting::Courier(courier)) => Ok(Some(advance(ops, alloc, world, state, courier)?)),
+        None => Ok(None),
+    }
 }
 
 /// The first image of the queue that is not stopped sets out to be moved. None where there is none.
