@@ -1,11 +1,12 @@
 -- where a process stands among the members
-use Rattle.std.proofs.Common.{◌≡◌, ◌==◌, ◌≤◌, ◌<◌, ◌+◌, ◌-◌, ℕ, zero, suc, Bool, true, false, cond, List, [], ◌∷◌, ◌++◌, length, take, drop, slice_get, slice_set, refl, sym, ap, ◌∙◌, subst, arith, length-drop, take_all, Some, if◌then◌else◌}
+use Rattle.std.proofs.Common.{◌≡◌, ◌==◌, ◌≤◌, ◌<◌, ◌+◌, ◌-◌, ℕ, zero, suc, Bool, true, false, cond, List, [], ◌∷◌, ◌++◌, length, take, drop, get_or, slice_get, slice_set, refl, sym, ap, ◌∙◌, subst, arith, length-drop, take_all, Some, if◌then◌else◌}
 use Rattle.std.specs.Prelude.{map}
-use Rattle.std.proofs.lemmas.List.{drop-drop}
+use Rattle.std.proofs.lemmas.List.{drop-drop, get_or_default}
+use Rattle.std.proofs.lemmas.List.Edits.{map_over_more}
 use Rattle.std.proofs.Math.ListN.{length-set}
 use Rattle.unix_names.specs.declared.Pid.{Pid}
 use Rattle.group_record.specs.declared.member.Member.{Member}
-use Rattle.group_record.specs.Members.{member_of, begun_at}
+use Rattle.group_record.specs.Members.{member_of, lowered, begun_at}
 use Rattle.group_record.specs.MethodPlaces.{others_first}
 
 pub place-within : (p : Pid) (ms : List Member) → others_first p ms ≤ length ms
@@ -109,3 +110,48 @@ to-end p a ys k e = let left = length-drop a ys in e ∙ ap (others_first p) (ta
 
 pub end-within : (p : Pid) (a : ℕ) (ys : List Member) (k : ℕ) → k ≡ others_first p (take (length ys - a) (drop a ys)) → k ≤ length ys - a
 end-within p a ys k e = let left = length-drop a ys in let h = place-within p (drop a ys) in let same = to-end p a ys k e in omega arith
+
+-- how far the members have been lowered
+pub record IsLowered (by : ℕ) (old : List Member) (a : ℕ) (ms : List Member) : Type 0 where
+  pub within : a ≤ length ms
+  pub same : length ms ≡ length old
+  pub done : ms ≡ map (lowered by) (take a old) ++ drop a old
+
+pub lowered-next : (by : ℕ) (old : List Member) (a j : ℕ) (ms : List Member) (y d : Member) → IsLowered by old a ms → a < length ms → y ≡ lowered by (get_or ms a d) → j ≡ a + 1 → IsLowered by old j (slice_set ms a y)
+lowered-next by old a j ms y d r lt is e =
+    let long : length (slice_set ms a y) ≡ length ms = length-set ms a y in
+    let same = r.same in
+    record {
+      within = omega arith;
+      same = long ∙ same;
+      done = ap (slice_set ms a) is ∙ map_over_more (lowered by) old ms a (get_or ms a d) (omega arith) r.done (get_or_default _ _ _ _ lt) ∙ ap (λ i. map (lowered by) (take i old) ++ drop i old) (sym e);
+    }
+
+pub lowered-four : (by : ℕ) (old : List Member) (a : ℕ) (ms : List Member) (x y z w d : Member) → IsLowered by old a ms → a + 4 ≤ length ms → x ≡ lowered by (get_or ms a d) → y ≡ lowered by (get_or (slice_set ms a x) (a + 1) d) →
+    z ≡ lowered by (get_or (slice_set (slice_set ms a x) (a + 1) y) (a + 2) d) → w ≡ lowered by (get_or (slice_set (slice_set (slice_set ms a x) (a + 1) y) (a + 2) z) (a + 3) d) →
+    IsLowered by old (a + 4) (slice_set (slice_set (slice_set (slice_set ms a x) (a + 1) y) (a + 2) z) (a + 3) w)
+lowered-four by old a ms x y z w d r room ix iy iz iw =
+    let one = lowered-next by old a (a + 1) ms x d r (omega arith) ix refl in
+    let lx : length (slice_set ms a x) ≡ length ms = length-set ms a x in
+    let two = lowered-next by old (a + 1) (a + 2) (slice_set ms a x) y d one (omega arith) iy (omega arith) in
+    let ly : length (slice_set (slice_set ms a x) (a + 1) y) ≡ length (slice_set ms a x) = length-set (slice_set ms a x) (a + 1) y in
+    let three = lowered-next by old (a + 2) (a + 3) (slice_set (slice_set ms a x) (a + 1) y) z d two (omega arith) iz (omega arith) in
+    let lz : length (slice_set (slice_set (slice_set ms a x) (a + 1) y) (a + 2) z) ≡ length (slice_set (slice_set ms a x) (a + 1) y) = length-set (slice_set (slice_set ms a x) (a + 1) y) (a + 2) z in
+    lowered-next by old (a + 3) (a + 4) (slice_set (slice_set (slice_set ms a x) (a + 1) y) (a + 2) z) w d three (omega arith) iw (omega arith)
+
+pub lowered-all : (by : ℕ) (old : List Member) (a : ℕ) (ms : List Member) → IsLowered by old a ms → length ms ≤ a → ms ≡ map (lowered by) old
+lowered-all by old a ms r past =
+    let same = r.same in
+    let gone = length-drop a old in
+    let none : drop a old ≡ [] = drop_all a old (omega arith) in
+    r.done ∙ ap (λ l. map (lowered by) l ++ drop a old) (take_all a old (omega arith)) ∙ ap (λ l. map (lowered by) old ++ l) none ∙ append-nil (map (lowered by) old)
+  where
+    drop_all : (a : ℕ) (l : List Member) → length l ≤ a → drop a l ≡ []
+    drop_all zero [] h = refl
+    drop_all (suc a) [] h = refl
+    drop_all zero (m ∷ l) h = absurd (omega arith)
+    drop_all (suc a) (m ∷ l) h = drop_all a l (omega arith)
+
+    append-nil : (l : List Member) → l ++ [] ≡ l
+    append-nil [] = refl
+    append-nil (m ∷ l) = ap (λ k. m ∷ k) (append-nil l)

@@ -43,6 +43,10 @@ impl Group {
     pub fn part_of(&self, p: Pid) -> &[LogEntry]
         ensures { result.now ≡ drop (from_of self.now.members p) self.now.log }
     {
+        // An empty log has nothing for anyone.
+        if self.log.is_empty() {
+            return self.log.as_slice();
+        }
         let from = match self.member_of(p) {
             None => 0,
             Some(m) => m.from,

@@ -98,12 +98,27 @@ fn least_among(start: u64, members: &[Member]) -> u64
     members.iter().fold(start, |least, m| least.min(m.from))
 }
 
-#[tactic(auto, using(std::proofs::lemmas::List::Edits::map_over_more))]
+fn lower(m: &mut Member, by: u64)
+    ensures { m.new ≡ lowered by m.old }
+{
+    m.from = m.from.saturating_sub(by);
+}
+
 pub(crate) fn lower_each(members: &mut [Member], by: u64)
     ensures { members.new ≡ map (lowered by) members.old }
 {
-    for m in members.iter_mut() {
-        m.from = m.from.saturating_sub(by);
+    // Four at a time, since a group may have hundreds.
+    let mut at = 0;
+    while at + 4 <= members.len() {
+        lower(&mut members[at], by);
+        lower(&mut members[at + 1], by);
+        lower(&mut members[at + 2], by);
+        lower(&mut members[at + 3], by);
+        at += 4;
+    }
+    while at < members.len() {
+        lower(&mut members[at], by);
+        at += 1;
     }
 }
 

@@ -1,7 +1,6 @@
 // exec.
 ghost use Rattle.std.specs.Prelude.{◌≡◌, IsSome};
 ghost use Rattle.std.specs.Option.{option_map};
-ghost use Rattle.ordered_table.specs.Entries.{IsRising};
 ghost use Rattle.decide_law.specs.Agrees.{vproc_at};
 ghost use Rattle.decide_law.specs.Effects.{only, same, changed};
 ghost use Rattle.unix_calls.specs.declared.Call.TheVariants as calls;
@@ -12,16 +11,17 @@ ghost use Rattle.ops_exit_wait.specs.Exec.{execed_record};
 ghost use Rattle.ops_exit_wait.specs.Decide.{effect_of};
 
 use decide_law::{finish, settle_in};
-use record_bag::{Bag, Outcome};
+use record_bag::{Bag, Outcome, record_mut};
 use signal_state::Own;
 use std::alloc::Global;
 use unix_calls::{Call, Entry, Phase, Reply};
 use unix_names::Pid;
+use vproc_record::Vproc;
 
-fn vprocs_rise(bag: &Bag)
-    ensures { IsRising bag.now.vprocs }
+fn mark(v: &mut Vproc)
+    ensures { v.new ≡ execed_record v.old }
 {
-    let _vprocs = bag.vprocs.as_slice();
+    v.execed = true;
 }
 
 // The record of a process tells that it has done an exec.
@@ -30,10 +30,8 @@ fn tell_execed(pid: Pid, bag: &mut Bag)
     ensures bag { bag.new ≡ changed (only pid (option_map execed_record)) same bag.old }
     ensures groups { bag.new.groups ≡ bag.old.groups }
 {
-    vprocs_rise(bag);
-    if let Some(mut v) = bag.vprocs.replace(pid, None) {
-        v.execed = true;
-        bag.vprocs.replace(pid, Some(v));
+    if let Some(v) = record_mut(&mut bag.vprocs, pid) {
+        mark(v);
     }
 }
 

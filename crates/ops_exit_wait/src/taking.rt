@@ -11,8 +11,9 @@ ghost use Rattle.ops_exit_wait.specs.MethodWaitpid.{CanTell, vprocs_by, groups_b
 
 use crate::findings::Found;
 use group_record::Group;
-use record_bag::Bag;
+use record_bag::{Bag, record_mut};
 use unix_names::Pid;
+use vproc_record::Vproc;
 
 fn both_rise(bag: &Bag)
     ensures vprocs { IsRising bag.now.vprocs }
@@ -29,15 +30,19 @@ fn unless_empty(g: Group) -> Option<Group>
     if g.is_empty() { None } else { Some(g) }
 }
 
+fn clear_change(v: &mut Vproc)
+    ensures { v.new ≡ reported v.old }
+{
+    v.change = None;
+}
+
 // The change of a process has been reported.
 fn forget_change(pid: Pid, bag: &mut Bag)
     requires { IsSome (vproc_at bag.old pid) }
     ensures { bag.new ≡ record bag.old { vprocs = with_each (only pid (option_map reported)) bag.old.vprocs } }
 {
-    both_rise(bag);
-    if let Some(mut v) = bag.vprocs.replace(pid, None) {
-        v.change = None;
-        bag.vprocs.replace(pid, Some(v));
+    if let Some(v) = record_mut(&mut bag.vprocs, pid) {
+        clear_change(v);
     }
 }
 
@@ -46,10 +51,8 @@ fn drop_child(pid: Pid, child: Pid, bag: &mut Bag)
     requires { IsSome (vproc_at bag.old pid) }
     ensures { bag.new ≡ record bag.old { vprocs = with_each (only pid (option_map (λ v. without_child v child))) bag.old.vprocs } }
 {
-    both_rise(bag);
-    if let Some(mut v) = bag.vprocs.replace(pid, None) {
+    if let Some(v) = record_mut(&mut bag.vprocs, pid) {
         v.drop_child(child);
-        bag.vprocs.replace(pid, Some(v));
     }
 }
 

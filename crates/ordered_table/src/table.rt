@@ -7,9 +7,10 @@ ghost use Rattle.ordered_table.specs.Entries.{value_at, with_value, without, has
 ghost use Rattle.ordered_table.specs.Lends.{lends_found, lends_value};
 ghost use Rattle.ordered_table.specs.MethodPlaces.{IsFoundAt};
 
-use crate::entries::{Entry, greatest, pop_first, put, remove, replace, replace_value_at, search};
-use std::alloc::Global;
+use crate::entries::{Entry, greatest, pop_first, remove, replace, replace_value_at, search};
+use std::alloc::{AllocFailed, Global};
 use std::marker::Model;
+use std::mem;
 use unix_names::Pid;
 
 /// Values by process id, in rising order of id, each id once. Contracts see the list of entries.
@@ -124,7 +125,17 @@ impl<T> Table<T> {
         ensures back { IfErr result (λ v. v ≡ value) }
         ensures err { OnErr result (self.new ≡ self.old) }
     {
-        put(&mut self.entries, pid, value)
+        match search(self.entries.as_slice(), pid) {
+            Ok(at) => Ok(Some(mem::replace(self.value_mut(pid, at), value))),
+            Err(at) => match self.entries.insert(at, Entry { pid, value }) {
+                Ok(()) => Ok(None),
+                Err(refused) => {
+                    let AllocFailed { value: entry } = refused;
+                    let Entry { pid: _, value } = entry;
+                    Err(value)
+                }
+            },
+        }
     }
 
     /// Gives an id that has a value another one, and returns the old one. It takes no memory.

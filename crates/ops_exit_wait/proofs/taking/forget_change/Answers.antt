@@ -1,12 +1,10 @@
-use Rattle.std.proofs.Common.{ap, Some, None}
-use Rattle.std.specs.Option.{option_map}
-use Rattle.decide_law.proofs.Tables.{replaced, taken_and_put}
+use Rattle.std.proofs.Common.{ap}
+use Rattle.decide_law.proofs.Tables.{lent, not_lent}
 use Rattle.ops_exit_wait.specs.Waitpid.{reported}
 use Rattle.ops_exit_wait.proofs.taking.forget_change.Goals as goal
 
 pub returns-in-Some : goal.returns-in-Some
-returns-in-Some c =
-    ap (λ vs. record c.args.bag.now { vprocs = vs }) (taken_and_put c.args.pid (option_map reported) c.args.bag.now.vprocs _ _ (Some c.in-Some.v) None c.both_rise.ensures.vprocs c.in-Some.ensures.before c.in-Some.ensures.after c.replace-in-Some.ensures.after)
+returns-in-Some c = ap (λ vs. record c.args.bag.now { vprocs = vs }) (lent c.args.pid reported c.args.bag.now.vprocs c.in-Some.v.now _ c.record_mut.ensures.rising c.in-Some.ensures.value c.clear_change.ensures)
 
 pub returns-in_default : goal.returns-in_default
-returns-in_default c = ap (λ vs. record c.args.bag.now { vprocs = vs }) (replaced c.args.pid (option_map reported) c.args.bag.now.vprocs _ None c.both_rise.ensures.vprocs c.in_default.ensures.before c.in_default.ensures.after)
+returns-in_default c = ap (λ vs. record c.args.bag.now { vprocs = vs }) (not_lent c.args.pid reported c.args.bag.now.vprocs c.record_mut.ensures.rising c.requires c.in_default.ensures.value)
