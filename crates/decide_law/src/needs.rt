@@ -1,5 +1,5 @@
 // The names that a decision needs and that are not held.
-ghost use Rattle.std.specs.Prelude.{◌≡◌, ◌∷◌, [], slice_get, flat_map, OnOk, OnErr};
+ghost use Rattle.std.specs.Prelude.{◌≡◌, ◌∷◌, [], ℕ, take, slice_get, flat_map, OnOk, OnErr};
 ghost use Rattle.decide_law.specs.Footprints.{with_name, is_none, with_living_group};
 ghost use Rattle.decide_law.specs.MethodNeeds.{passed, not_before, wanted};
 
@@ -53,9 +53,10 @@ pub fn want(names: &mut Seq<Name>, bag: &Bag, name: Name) -> Result<(), NoMemory
     }
 }
 
-/// The same of a process and, once its record tells that it lives, of its group. After NoMemory some of them may stand among the names.
+/// The same of a process and, once its record tells that it lives, of its group. After NoMemory the first of them may stand among the names.
 pub fn want_living_group(names: &mut Seq<Name>, bag: &Bag, pid: Pid) -> Result<(), NoMemory>
-    ensures { OnOk result (names.new ≡ wanted bag.now (with_living_group bag.now pid) names.old) }
+    ensures ok { OnOk result (names.new ≡ wanted bag.now (with_living_group bag.now pid) names.old) }
+    ensures err { OnErr result ((n : ℕ) × (names.new ≡ wanted bag.now (take n (with_living_group bag.now pid)) names.old)) }
 {
     want(names, bag, Name::V(pid))?;
     match bag.vproc(pid) {
@@ -64,13 +65,14 @@ pub fn want_living_group(names: &mut Seq<Name>, bag: &Bag, pid: Pid) -> Result<(
     }
 }
 
-/// The same of each of these processes. After NoMemory some of the names may stand among the others.
+/// The same of each of these processes. After NoMemory the first of their names may stand among the others.
 pub fn want_living_children(
     names: &mut Seq<Name>,
     bag: &Bag,
     children: &[Pid],
 ) -> Result<(), NoMemory>
-    ensures { OnOk result (names.new ≡ wanted bag.now (flat_map (with_living_group bag.now) children.now) names.old) }
+    ensures ok { OnOk result (names.new ≡ wanted bag.now (flat_map (with_living_group bag.now) children.now) names.old) }
+    ensures err { OnErr result ((n : ℕ) × (names.new ≡ wanted bag.now (take n (flat_map (with_living_group bag.now) children.now)) names.old)) }
 {
     for child in children {
         want_living_group(names, bag, *child)?;

@@ -28,6 +28,7 @@ use Rattle.node_state.specs.Returns.{all_given_back}
 use Rattle.node_state.specs.Endings.{finished}
 use Rattle.node_core.specs.declared.step.Step.{Step}
 use Rattle.node_core.specs.declared.step.Step.TheVariants.{Again, Over}
+use Rattle.unix_names.specs.declared.limits.TheConstants.{PIDS_PER_NODE}
 
 -- what is answered to a question: process, job, own signals, bag and site
 abbrev pub Ask : Type 0
@@ -43,7 +44,7 @@ is_stepped state step = record { state = state; step = step }
 
 -- the process id that the node gives out next
 abbrev pub fresh_number : State → ℕ
-fresh_number s = 1000000 * s.id + s.serial
+fresh_number s = PIDS_PER_NODE * s.id + s.serial
 
 abbrev pub site_of : State → Site
 site_of s = record { node = record { 0 = s.id }; fresh = record { 0 = fresh_number s } }

@@ -1,5 +1,5 @@
 // The state of a node.
-ghost use Rattle.std.specs.Prelude.{◌≡◌, ◌+◌, slice_index, slice_set, OnOk, IfOk};
+ghost use Rattle.std.specs.Prelude.{◌≡◌, ◌+◌, slice_index, slice_set, OnOk, OnErr, IfOk};
 
 use crate::ready::ReadyQueue;
 use courier_core::{Courier, Message};
@@ -48,6 +48,7 @@ pub struct State {
 fn count_up(numbers: &mut Seq<u64>, at: u32) -> Result<u64, NoMemory>
     ensures number { IfOk result (λ number. number ≡ slice_index numbers.old at) }
     ensures counted { OnOk result (numbers.new ≡ slice_set numbers.old at (slice_index numbers.old at + 1)) }
+    ensures err { OnErr result (numbers.new ≡ numbers.old) }
 {
     let at = at as usize;
     let number = numbers.get(at).copied().unwrap_or(0);
@@ -76,9 +77,10 @@ impl State {
         Ok(())
     }
 
-    /// One more message of a node is taken.
+    /// One more message of a node is taken. After NoMemory nothing has changed.
     pub fn count_taken(&mut self, from: u32) -> Result<(), NoMemory>
-        ensures { OnOk result (self.new ≡ one_taken self.old from) }
+        ensures ok { OnOk result (self.new ≡ one_taken self.old from) }
+        ensures err { OnErr result (self.new ≡ self.old) }
     {
         count_up(&mut self.taken, from)?;
         Ok(())
