@@ -171,7 +171,7 @@ fn wait(state: &mut State, name: Name, courier: Courier) -> Result<Option<Entry>
 }
 
 /// A courier goes on until it leaves, waits or is done.
-pub fn advance<O: OpVector>(
+pub(crate) fn advance<O: OpVector>(
     ops: &O,
     alloc: Global,
     world: &World,

@@ -26,7 +26,7 @@ fn courier_with(alloc: Global, image: Image, job: Job) -> Courier
 }
 
 /// The first of the ready queue has its turn. None where nobody stands there.
-pub fn go<O: OpVector>(
+pub(crate) fn go<O: OpVector>(
     ops: &O,
     alloc: Global,
     world: &World,
@@ -47,7 +47,7 @@ pub fn go<O: OpVector>(
 }
 
 /// The first image of the queue that is not stopped sets out to be moved. None where there is none.
-pub fn push<O: OpVector>(
+pub(crate) fn push<O: OpVector>(
     ops: &O,
     alloc: Global,
     world: &World,
@@ -65,7 +65,7 @@ pub fn push<O: OpVector>(
 }
 
 /// What a message does at the node.
-pub fn come<O: OpVector>(
+pub(crate) fn come<O: OpVector>(
     ops: &O,
     alloc: Global,
     world: &World,
