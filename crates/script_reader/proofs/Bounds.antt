@@ -1,8 +1,6 @@
 -- what a line says keeps within bounds
-use Rattle.std.proofs.Common.{◌≡◌, ℕ, ◌+◌, ◌<◌, ◌≤◌, ◌==◌, ◌&&◌, Bool, true, false, if◌then◌else◌, nat_lt, nat_le, List, codes, Result, Ok, Err, refl, arith}
+use Rattle.std.proofs.Common.{◌≡◌, ℕ, ◌+◌, ◌<◌, ◌≤◌, ◌==◌, ◌&&◌, Bool, true, false, if◌then◌else◌, nat_lt, nat_le, codes, Result, Ok, Err, refl, arith}
 use Rattle.std.proofs.lemmas.Bool.Decides.{nat_tests}
-use Rattle.std.specs.Str.{is_utf8}
-use Rattle.byte_ends.specs.Text.{words}
 use Rattle.script_words.specs.declared.faults.Kind.{Kind}
 use Rattle.script_words.specs.declared.faults.Kind.TheVariants.{NotUtf8, NoClusterLine, UnknownWord, NoSuchNode, TooManyNodes, TooManyScripts, TooManyStatements, TooManyStarts, DoubleName}
 use Rattle.script_reader.specs.declared.names.Names.{Names}
@@ -14,10 +12,11 @@ use Rattle.script_reader.specs.declared.lines.Item.{Item}
 use Rattle.script_reader.specs.declared.lines.Item.TheVariants as item
 use Rattle.script_reader.specs.declared.lines.StartLine.{StartLine}
 use Rattle.unix_calls.specs.declared.Statement.{Statement}
+use Rattle.script_reader.specs.MethodCuts.{CutRow, read_cut}
 use Rattle.script_reader.specs.MethodReading.{HasNode}
 use Rattle.script_words.specs.Words.{Word, Row, ◌>>=◌, is_same, word_at, name, number, ended, node, is_skipped}
 use Rattle.script_reader.specs.Statements.{script, statement_of}
-use Rattle.script_reader.specs.Lines.{is_numbered, head_of, start_variable, user, joined, cluster_line, script_line, end_line, statement_line, start_words, start_line, later_line, read_row, read_line, nodes_after, placed_after, place_after}
+use Rattle.script_reader.specs.Lines.{is_numbered, head_of, start_variable, user, joined, cluster_line, script_line, end_line, statement_line, start_words, start_line, later_line, read_row, nodes_after, placed_after, place_after}
 use Rattle.unix_calls.specs.declared.limits.TheConstants.{MOST_NODES, MOST_SCRIPTS, MOST_STATEMENTS, MOST_STARTS}
 
 -- what a line says of nodes: at most 64 of them, and starts on one of so many
@@ -114,9 +113,8 @@ unfolding read_row
 fine-row names place row =
     fine-if place.nodes (is_skipped row) _ _ (λ _. fine-nothing place.nodes) (fine-if place.nodes place.begun _ _ (λ _. fine-later names place (head_of (word_at row 0)) row) (fine-cluster place.nodes row))
 
-pub fine-line : (names : Names) (place : Place) (line : List ℕ) → IsFine place.nodes (read_line names place line)
-unfolding read_line
-fine-line names place line = fine-if place.nodes (is_utf8 line) _ _ (λ _. fine-row names place (words line)) (fine-err place.nodes NotUtf8)
+pub fine-cut : (names : Names) (place : Place) (line : CutRow) → IsFine place.nodes (read_cut names place line)
+fine-cut names place line = fine-if place.nodes line.1 _ _ (λ _. fine-row names place line.0) (fine-err place.nodes NotUtf8)
 
 -- a start that a line says is on one of at most 64 nodes
 pub has-node : (m : ℕ) (read : Result Item Kind) → IsFine m read → m ≤ MOST_NODES → HasNode read
@@ -149,13 +147,10 @@ within-placed n place nodes head.Unknown w le = record { scripts = omega (arith,
 within-more : (n : ℕ) (place : Place) → IsWithin n place → IsWithin (n + 1) place
 within-more n place w = record { scripts = omega (arith, w.scripts); statements = omega (arith, w.statements); starts = omega (arith, w.starts); nodes = w.nodes }
 
-pub within-later : (n m : ℕ) (place : Place) → n ≤ m → IsWithin n place → IsWithin m place
-within-later n m place le w = record { scripts = omega (arith, le, w.scripts); statements = omega (arith, le, w.statements); starts = omega (arith, le, w.starts); nodes = w.nodes }
-
 -- one line more
-pub within-after : (n : ℕ) (names : Names) (place : Place) (line : List ℕ) → IsWithin n place → IsWithin (n + 1) (place_after place (words line) (read_line names place line))
+pub within-after : (n : ℕ) (place : Place) (row : Row) (read : Result Item Kind) → IsFine place.nodes read → IsWithin n place → IsWithin (n + 1) (place_after place row read)
 unfolding place_after
-within-after n names place line w = pick (is_skipped (words line)) where
-  pick : (b : Bool) → IsWithin (n + 1) (if b then place else placed_after place (nodes_after place.nodes (read_line names place line)) (head_of (word_at (words line) 0)))
+within-after n place row read fine w = pick (is_skipped row) where
+  pick : (b : Bool) → IsWithin (n + 1) (if b then place else placed_after place (nodes_after place.nodes read) (head_of (word_at row 0)))
   pick true = within-more n place w
-  pick false = within-placed n place (nodes_after place.nodes (read_line names place line)) (head_of (word_at (words line) 0)) w (few_nodes place.nodes (read_line names place line) (fine-line names place line) w.nodes)
+  pick false = within-placed n place (nodes_after place.nodes read) (head_of (word_at row 0)) w (few_nodes place.nodes read fine w.nodes)

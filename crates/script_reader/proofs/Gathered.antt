@@ -1,12 +1,15 @@
 -- names gathered line by line, and numbered one by one
-use Rattle.std.proofs.Common.{◌≡◌, ℕ, ◌+◌, ◌<◌, ◌≤◌, true, false, List, [], ◌∷◌, ◌++◌, length, map, filter, take, drop, get_or, Bor, refl, sym, ap, ◌∙◌, arith, append_assoc}
-use Rattle.std.proofs.lemmas.List.{at_drop_more, at_drop_all, map-append, append-nil, take_more, drop_all}
+use Rattle.std.proofs.Common.{◌≡◌, ℕ, ◌+◌, ◌<◌, ◌≤◌, true, false, List, [], ◌∷◌, ◌++◌, length, map, filter, drop, get_or, Bor, Bool, codes, refl, sym, ap, ◌∙◌, append_assoc, arith}
+use Rattle.std.proofs.lemmas.List.{at_drop_more, at_drop_all, map-append, append-nil}
 use Rattle.std.proofs.lemmas.List.Elements.{filter-append}
-use Rattle.byte_ends.specs.Text.{lines, words}
-use Rattle.text_laws.proofs.Lengths.{not_first}
-use Rattle.script_words.specs.Words.{Word, Row, is_same, word_at}
+use Rattle.std.proofs.lemmas.Grind.{common_steps}
+use Rattle.std.specs.Prelude.{slice_range}
+use Rattle.script_words.specs.Words.{Word, Row, word_at, is_same}
 use Rattle.script_reader.specs.Names.{Table, noted}
 use Rattle.script_reader.specs.Files.{begins_with, words_behind, numbered, listed}
+use Rattle.script_reader.specs.MethodCuts.{CutRow, row_of, cut_rows}
+use Rattle.script_reader.specs.declared.cuts.CutLine.{CutLine}
+use Rattle.script_reader.proofs.Rows.{rows-more}
 
 -- the words of a line, and those of further lines
 words_behind-more : (first : Word) (at : ℕ) (row : Row) (rows : List Row) → words_behind first at (row ∷ rows) ≡ words_behind first at (row ∷ []) ++ words_behind first at rows
@@ -51,26 +54,57 @@ unfolding numbered number_rest
 number-all ws i n table total le so_far = sym (at_drop_all (number_rest table n) ws i le) ∙ so_far
 
 -- the words that were found, and those of the lines still to come
-pub words-more : (first : Word) (at : ℕ) (text : List ℕ) (from next : ℕ) (line : List ℕ) (found total : List Word) → lines (drop from text) ≡ line ∷ lines (drop next text)
-    → found ++ words_behind first at (map words (lines (drop from text))) ≡ total
-    → (found ++ words_behind first at (words line ∷ [])) ++ words_behind first at (map words (lines (drop next text))) ≡ total
-words-more first at text from next line found total e so_far =
-    append_assoc found (words_behind first at (words line ∷ [])) (words_behind first at (map words (lines (drop next text))))
-    ∙ ap (λ (ws : List Word). found ++ ws) (sym (words_behind-more first at (words line) (map words (lines (drop next text)))) ∙ ap (λ (ls : List (List ℕ)). words_behind first at (map words ls)) (sym e))
+pub words-more : (first : Word) (at : ℕ) (line : CutRow) (all rest : List CutRow) (found total : List Word) → all ≡ line ∷ rest
+    → found ++ words_behind first at (map row_of all) ≡ total
+    → (found ++ words_behind first at (line.0 ∷ [])) ++ words_behind first at (map row_of rest) ≡ total
+words-more first at line all rest found total e so_far =
+    append_assoc found (words_behind first at (line.0 ∷ [])) (words_behind first at (map row_of rest))
+    ∙ ap (λ (ws : List Word). found ++ ws) (sym (words_behind-more first at line.0 (map row_of rest)) ∙ ap (λ (rows : List CutRow). words_behind first at (map row_of rows)) (sym e))
     ∙ so_far
 
-pub words-all : (first : Word) (at : ℕ) (text : List ℕ) (from : ℕ) (found total : List Word) → from ≡ length text → found ++ words_behind first at (map words (lines (drop from text))) ≡ total → found ≡ total
-words-all first at text from found total end so_far =
-    let none : drop from text ≡ [] = drop_all from text (omega (arith, end)) in
-    sym (append-nil found) ∙ ap (λ (ws : List Word). found ++ ws) (sym (words_behind-none first at)) ∙ ap (λ (t : List ℕ). found ++ words_behind first at (map words (lines t))) (sym none) ∙ so_far
+pub words-all : (first : Word) (at : ℕ) (rows : List CutRow) (found total : List Word) → rows ≡ [] → found ++ words_behind first at (map row_of rows) ≡ total → found ≡ total
+words-all first at rows found total none so_far =
+    sym (append-nil found) ∙ ap (λ (ws : List Word). found ++ ws) (sym (words_behind-none first at)) ∙ ap (λ (rs : List CutRow). found ++ words_behind first at (map row_of rs)) (sym none) ∙ so_far
 
-begins_by : (first : Word) (line : List ℕ) → length line < length first → (row : Row) → words line ≡ row → is_same (word_at row 0) first ≡ false
-unfolding is_same word_at
-begins_by [] line less [] e = absurd (omega arith)
-begins_by (b ∷ first) line less [] e = refl
-begins_by first line less (word ∷ rest) e = not_first line first word rest e less
+-- a blank line gives no name
+blank-script : begins_with (codes "script") [] ≡ false
+unfolding begins_with word_at is_same
+blank-script = refl
 
--- a line that is shorter than a word gives nothing behind it
-pub short_gives_none : (first : Word) (at : ℕ) (line : List ℕ) → length line < length first → words_behind first at (words line ∷ []) ≡ []
-unfolding begins_with
-short_gives_none first at line less = words_behind-not first at (words line) (begins_by first line less (words line) refl)
+blank-fork : begins_with (codes "fork") [] ≡ false
+unfolding begins_with word_at is_same
+blank-fork = refl
+
+blank-start : begins_with (codes "start") [] ≡ false
+unfolding begins_with word_at is_same
+blank-start = refl
+
+blank_more : (first : Word) (at : ℕ) (rest all : List CutRow) (utf8 : Bool) (found total : List Word) → begins_with first [] ≡ false → all ≡ ([], utf8) ∷ rest
+    → found ++ words_behind first at (map row_of all) ≡ total → found ++ words_behind first at (map row_of rest) ≡ total
+blank_more first at rest all utf8 found total isnt e so_far =
+    sym (ap (λ (ws : List Word). found ++ ws)
+    (ap (λ (rows : List CutRow). words_behind first at (map row_of rows)) e
+    ∙ words_behind-more first at [] (map row_of rest)
+    ∙ ap (λ (ws : List Word). ws ++ words_behind first at (map row_of rest)) (words_behind-not first at [] isnt)))
+    ∙ so_far
+
+empty_range : (ws : List (Bor (List ℕ))) (n : ℕ) → slice_range ws n n ≡ []
+empty_range ws n = grind (arith, common_steps)
+
+module _ (all : List (Bor (List ℕ))) (from : ℕ) (lines : List CutLine) (i : ℕ) (d : CutLine) (within : i < length lines) (none : (get_or lines i d).word_count ≡ 0) where
+  blank-here : cut_rows all from (drop i lines) ≡ ([], (get_or lines i d).is_utf8) ∷ cut_rows all from (drop (i + 1) lines)
+  blank-here =
+      let same : from + (get_or lines i d).word_count ≡ from = omega (arith, none) in
+      rows-more all from lines i d within
+      ∙ ap (λ (n : ℕ). (map (λ w. w.now) (slice_range all from n), (get_or lines i d).is_utf8) ∷ cut_rows all n (drop (i + 1) lines)) same
+      ∙ ap (λ (ws : List (Bor (List ℕ))). (map (λ w. w.now) ws, (get_or lines i d).is_utf8) ∷ cut_rows all from (drop (i + 1) lines)) (empty_range all from)
+
+  -- so what is still to be found stands behind it
+  pub scripts-behind : (found total : List Word) → found ++ words_behind (codes "script") 1 (map row_of (cut_rows all from (drop i lines))) ≡ total → found ++ words_behind (codes "script") 1 (map row_of (cut_rows all from (drop (i + 1) lines))) ≡ total
+  scripts-behind found total = blank_more (codes "script") 1 (cut_rows all from (drop (i + 1) lines)) (cut_rows all from (drop i lines)) (get_or lines i d).is_utf8 found total blank-script blank-here
+
+  pub forks-behind : (found total : List Word) → found ++ words_behind (codes "fork") 1 (map row_of (cut_rows all from (drop i lines))) ≡ total → found ++ words_behind (codes "fork") 1 (map row_of (cut_rows all from (drop (i + 1) lines))) ≡ total
+  forks-behind found total = blank_more (codes "fork") 1 (cut_rows all from (drop (i + 1) lines)) (cut_rows all from (drop i lines)) (get_or lines i d).is_utf8 found total blank-fork blank-here
+
+  pub starts-behind : (found total : List Word) → found ++ words_behind (codes "start") 3 (map row_of (cut_rows all from (drop i lines))) ≡ total → found ++ words_behind (codes "start") 3 (map row_of (cut_rows all from (drop (i + 1) lines))) ≡ total
+  starts-behind found total = blank_more (codes "start") 3 (cut_rows all from (drop (i + 1) lines)) (cut_rows all from (drop i lines)) (get_or lines i d).is_utf8 found total blank-start blank-here

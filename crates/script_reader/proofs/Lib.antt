@@ -1,6 +1,7 @@
 mod Bounds
 mod Gathered
 mod NameLemmas
+mod Rows
 mod SignalLemmas
 mod Steps
 mod Wholes

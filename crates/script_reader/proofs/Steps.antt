@@ -1,9 +1,9 @@
 -- the meaning of lines, one line after the other
-use Rattle.std.proofs.Common.{◌≡◌, ℕ, ◌+◌, ◌<◌, ◌≤◌, Bool, true, false, if◌then◌else◌, List, [], ◌∷◌, ◌++◌, length, map, drop, get_or, codes, Bor, Option, Some, None, Result, Ok, Err, refl, sym, ap, ◌∙◌, append_assoc, cond, arith}
+use Rattle.std.proofs.Common.{◌≡◌, ℕ, ◌+◌, ◌<◌, ◌≤◌, Bool, true, false, if◌then◌else◌, List, [], ◌∷◌, ◌++◌, length, drop, get_or, codes, Option, Some, None, Result, Ok, Err, refl, sym, ap, ◌∙◌, append_assoc, cond, arith}
 use Rattle.std.specs.Prelude.{is_some}
 use Rattle.std.proofs.lemmas.List.{at_drop_more, at_drop_all, append-nil, drop_all}
 use Rattle.std.proofs.lemmas.List.Sums.{fold_push}
-use Rattle.byte_ends.specs.Text.{lines, words}
+use Rattle.byte_ends.specs.Text.{lines}
 use Rattle.unix_calls.specs.declared.Script.{Script}
 use Rattle.unix_calls.specs.declared.Start.{Start}
 use Rattle.unix_calls.specs.declared.Statement.{Statement}
@@ -19,9 +19,10 @@ use Rattle.script_reader.specs.declared.lines.Item.{Item}
 use Rattle.script_reader.specs.declared.lines.Item.TheVariants as item
 use Rattle.script_reader.specs.declared.lines.StartLine.{StartLine}
 use Rattle.script_words.specs.Words.{Row}
-use Rattle.script_reader.specs.Lines.{read_line, place_after}
+use Rattle.script_reader.specs.Lines.{place_after}
+use Rattle.script_reader.specs.MethodCuts.{CutRow, read_cut, cut_tells}
 use Rattle.script_words.specs.Kinds.{fault_at}
-use Rattle.script_reader.specs.Files.{Told, begins_with, said, body, tells, place_behind, scripts_of, start_of, with_start, judged}
+use Rattle.script_reader.specs.Files.{Told, begins_with, said, body, place_behind, scripts_of, start_of, with_start, judged}
 use Rattle.script_reader.specs.MethodReading.{scripts_with, started, HasNode, judged_with}
 use Rattle.script_reader.specs.declared.marks.Marks.{Marks}
 use Rattle.script_reader.specs.declared.marks.NumberedStart.{NumberedStart}
@@ -32,32 +33,32 @@ use Rattle.unix_calls.specs.declared.limits.TheConstants.{MOST_NODES}
 pub no-lines : (text : List ℕ) (at : ℕ) → at ≡ length text → lines (drop at text) ≡ []
 no-lines text at e = ap lines (drop_all at text (omega (arith, e)))
 
-module _ (names : Names) (place : Place) (text : List ℕ) (at next : ℕ) (line : List ℕ) (first : lines (drop at text) ≡ line ∷ lines (drop next text)) where
+module _ (names : Names) (place : Place) (line : CutRow) (all rest : List CutRow) (first : all ≡ line ∷ rest) where
   abbrev now : Place
-  now = place_after place (words line) (read_line names place line)
+  now = place_after place line.0 (read_cut names place line)
 
   abbrev later : List Told
-  later = tells names now (lines (drop next text))
+  later = cut_tells names now rest
 
-  tells-first : tells names place (lines (drop at text)) ≡ (words line, read_line names place line) ∷ later
-  unfolding tells
-  tells-first = ap (tells names place) first
+  tells-first : cut_tells names place all ≡ (line.0, read_cut names place line) ∷ later
+  unfolding cut_tells
+  tells-first = ap (cut_tells names place) first
 
   pub scripts-more : (bodies next' : Bodies) (total : List Script)
-      → ((rest : List Told) → scripts_with next' rest ≡ scripts_with bodies ((words line, read_line names place line) ∷ rest))
-      → scripts_with bodies (tells names place (lines (drop at text))) ≡ total → scripts_with next' later ≡ total
+      → ((more : List Told) → scripts_with next' more ≡ scripts_with bodies ((line.0, read_cut names place line) ∷ more))
+      → scripts_with bodies (cut_tells names place all) ≡ total → scripts_with next' later ≡ total
   scripts-more bodies next' total step so_far = step later ∙ ap (scripts_with bodies) (sym tells-first) ∙ so_far
 
-  pub place-more : (total : Place) → place_behind place (tells names place (lines (drop at text))) ≡ total → place_behind now later ≡ total
+  pub place-more : (total : Place) → place_behind place (cut_tells names place all) ≡ total → place_behind now later ≡ total
   unfolding place_behind
   place-more total so_far = ap (place_behind place) (sym tells-first) ∙ so_far
 
   pub marks-more : (works : List Work) (marks next' : Marks) (number : ℕ) (total : Result (List Start) Fault)
-      → ((row : Row) (rest : List Told) → judged_with works [] next'.starts next'.fault (number + 1) rest ≡ judged_with works [] marks.starts marks.fault number ((row, read_line names place line) ∷ rest))
-      → judged_with works [] marks.starts marks.fault number (tells names place (lines (drop at text))) ≡ total
+      → ((row : Row) (more : List Told) → judged_with works [] next'.starts next'.fault (number + 1) more ≡ judged_with works [] marks.starts marks.fault number ((row, read_cut names place line) ∷ more))
+      → judged_with works [] marks.starts marks.fault number (cut_tells names place all) ≡ total
       → judged_with works [] next'.starts next'.fault (number + 1) later ≡ total
   marks-more works marks next' number total step so_far =
-      step (words line) later ∙ ap (judged_with works [] marks.starts marks.fault number) (sym tells-first) ∙ so_far
+      step line.0 later ∙ ap (judged_with works [] marks.starts marks.fault number) (sym tells-first) ∙ so_far
 
 -- ---- what is judged of a line
 -- a line with a fault is judged that fault

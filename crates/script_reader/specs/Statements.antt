@@ -1,5 +1,5 @@
 -- statements of a script, read from their words
-use Rattle.std.specs.Prelude.{ℕ, ◌-◌, ◌==◌, Bool, true, false, nat_lt, nat_le, if◌then◌else◌, List, [], ◌∷◌, length, drop, codes, Option, Some, None, Result, Ok, Err}
+use Rattle.std.specs.Prelude.{ℕ, ◌-◌, ◌==◌, Bool, true, false, nat_lt, nat_le, if◌then◌else◌, [], ◌∷◌, length, drop, codes, Option, Some, None, Result, Ok, Err}
 use Rattle.unix_names.specs.declared.names.NodeId.{NodeId}
 use Rattle.unix_names.specs.declared.states.Act.{Act}
 use Rattle.unix_names.specs.Sets.{added}

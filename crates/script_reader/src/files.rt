@@ -1,27 +1,28 @@
 // Whole world parts.
 ghost use Rattle.std.specs.Prelude.{◌≡◌, ◌+◌, ◌-◌, ◌^◌, ◌<◌, ◌≤◌, [], ◌∷◌, ◌++◌, List, Ok, Err, map, length, slice_range, IfOk, OnOk, IsTrue};
-ghost use Rattle.byte_ends.specs.Text.{lines as lines_in, words as words_in};
+ghost use Rattle.byte_ends.specs.Text.{lines as lines_in};
 ghost use Rattle.unix_calls.specs.Work.{works, total_work};
 ghost use Rattle.unix_calls.specs.declared.Script.{Script};
 ghost use Rattle.script_words.specs.declared.faults.Fault.{Fault};
 ghost use Rattle.script_reader.specs.Files as spec;
+ghost use Rattle.script_reader.specs.MethodCuts.{cut_rows, cut_tells, cut_silent_kind};
 ghost use Rattle.script_reader.specs.MethodReading.{Stands, HaveNodes};
 
 use crate::bodies::Bodies;
+use crate::cuts::{Cut, CutLine, cut_lines};
 use crate::gather::gather;
 use crate::lines::{place_after, read_line};
 use crate::marks::Marks;
 use crate::names::Names;
 use crate::places::{FIRST_PLACE, Place};
 use crate::starts::judged;
-use byte_ends::{next_line, take_words};
 use file_parts::Span;
-use script_words::{Kind, ReadRefusal, bad, is_utf8};
+use script_words::{Kind, ReadRefusal, bad};
 use std::alloc::{AllocError, Global};
 use unix_calls::{Script, Work, World, fill_works};
 use unix_names::{NoMemory, Seq};
 
-/// The world that a world part means, or the least fault of it. Memory grows with the names, statements and starts of the part, and not with its lines.
+/// The world that a world part means, or the least fault of it. Memory grows with the words and lines of the part.
 ///
 /// # Errors
 /// `Bad` with the least line that has a fault, counted from the number of the part's first line, and its first fault;
@@ -46,11 +47,12 @@ fn read_part(alloc: Global, text: &[u8], first_line: u32) -> Result<World, ReadR
     ensures world { IfOk result (λ w. spec.read_part first_line (lines_in text.now) ≡ Ok w) }
     ensures bad { (fault : Fault) → result ≡ Err (ReadRefusal.Bad fault) → spec.read_part first_line (lines_in text.now) ≡ Err fault }
 {
-    let names = gather(alloc, text)?;
-    let read = read_lines(alloc, &names, text, first_line)?;
+    let cut = cut_lines(alloc, text)?;
+    let names = gather(alloc, &cut)?;
+    let read = read_lines(alloc, &names, &cut, first_line)?;
     let place = read.place;
     if !place.begun {
-        let kind = silent_kind(text);
+        let kind = silent_kind(&cut.lines);
         return Err(bad(first_line, kind));
     }
     let works = works_of(alloc, read.scripts.as_slice())?;
@@ -86,33 +88,32 @@ struct Reading {
 fn read_lines<'a>(
     alloc: Global,
     names: &Names<'a>,
-    text: &'a [u8],
+    cut: &Cut<'a>,
     first_line: u32,
 ) -> Result<Reading, NoMemory>
-    requires short { length text.now < 2 ^ 31 }
+    requires short { length cut.now.lines.items < 2 ^ 31 }
     requires numbers { first_line ≤ 2 ^ 31 }
-    ensures scripts { IfOk result (λ x. x.scripts ≡ spec.scripts_of (spec.tells names.now spec.first_place (lines_in text.now))) }
-    ensures place { IfOk result (λ x. x.place ≡ spec.place_behind spec.first_place (spec.tells names.now spec.first_place (lines_in text.now))) }
-    ensures marks { IfOk result (λ x. Stands x.marks x.behind first_line (spec.tells names.now spec.first_place (lines_in text.now))) }
+    ensures scripts { IfOk result (λ x. x.scripts ≡ spec.scripts_of (cut_tells names.now spec.first_place (cut_rows cut.now.words.items 0 cut.now.lines.items))) }
+    ensures place { IfOk result (λ x. x.place ≡ spec.place_behind spec.first_place (cut_tells names.now spec.first_place (cut_rows cut.now.words.items 0 cut.now.lines.items))) }
+    ensures marks { IfOk result (λ x. Stands x.marks x.behind first_line (cut_tells names.now spec.first_place (cut_rows cut.now.words.items 0 cut.now.lines.items))) }
     ensures nodes { IfOk result (λ x. HaveNodes x.marks.starts) }
     ensures few { IfOk result (λ x. length x.marks.starts < 2 ^ 31) }
-    ensures behind { IfOk result (λ x. x.behind ≡ first_line + length (lines_in text.now)) }
+    ensures behind { IfOk result (λ x. x.behind ≡ first_line + length cut.now.lines.items) }
 {
     let mut bodies = Bodies::new(alloc);
     let mut marks = Marks::new(alloc);
     let mut place = FIRST_PLACE;
     let mut number = first_line;
-    let mut words = Vec::new(alloc);
-    let mut at = 0;
-    while let Some((from, to, next)) = next_line(text, at) {
-        let line = &text[from..to];
-        take_words(&mut words, line)?;
-        let read = read_line(names, &place, line, &words);
-        bodies.take_line(alloc, &words, &read)?;
+    let mut from = 0;
+    for line in &cut.lines {
+        let to = from + line.word_count as usize;
+        let words = &cut.words[from..to];
+        let read = read_line(names, &place, line.is_utf8, words);
+        bodies.take_line(alloc, words, &read)?;
         marks.take_line(number, &read)?;
-        place = place_after(place, &words, read);
+        place = place_after(place, words, read);
         number += 1;
-        at = next;
+        from = to;
     }
     let scripts = bodies.finish()?;
     Ok(Reading {
@@ -133,13 +134,13 @@ fn works_of(alloc: Global, scripts: &[Script]) -> Result<Vec<Work>, AllocError>
 }
 
 // What is wrong with a part in which no line says anything.
-fn silent_kind(text: &[u8]) -> Kind
-    ensures { result ≡ spec.silent_kind (lines_in text.now) }
+fn silent_kind(lines: &[CutLine]) -> Kind
+    ensures { result ≡ cut_silent_kind lines.now }
 {
-    match next_line(text, 0) {
-        None => Kind::NoClusterLine,
-        Some((from, to, _)) => {
-            if is_utf8(&text[from..to]) {
+    match lines {
+        [] => Kind::NoClusterLine,
+        [first, ..] => {
+            if first.is_utf8 {
                 Kind::NoClusterLine
             } else {
                 Kind::NotUtf8

@@ -1,10 +1,10 @@
 // The names that the lines of a file give.
-ghost use Rattle.std.specs.Prelude.{◌≡◌, [], ◌∷◌, ◌++◌, ◌≤◌, map, length, codes, IfOk, OnOk};
-ghost use Rattle.byte_ends.specs.Text.{lines as lines_in, words as words_in};
+ghost use Rattle.std.specs.Prelude.{◌≡◌, [], ◌∷◌, ◌++◌, map, IfOk, OnOk};
 ghost use Rattle.script_reader.specs.Files.{begins_with, words_behind, numbered, listed, gather as gathered};
+ghost use Rattle.script_reader.specs.MethodCuts.{cut_rows, row_of};
 
+use crate::cuts::Cut;
 use crate::names::{Names, Numbers};
-use byte_ends::{next_line, take_words};
 use script_words::{is_word, word_at};
 use std::alloc::Global;
 use unix_names::NoMemory;
@@ -55,53 +55,26 @@ fn list<'a>(numbers: &mut Numbers<'a>, words: &[&'a [u8]]) -> Result<(), NoMemor
     Ok(())
 }
 
-// No line gives a name that is shorter than the shortest of the words that it would begin with.
-const SHORTEST: usize = 4;
-
-// Takes what a line gives. `words` is room for its words.
-#[tactic(auto, using(crate::proofs::Gathered::short_gives_none))]
-fn gather_line<'a>(
-    scripts: &mut Vec<&'a [u8]>,
-    forks: &mut Vec<&'a [u8]>,
-    starts: &mut Vec<&'a [u8]>,
-    words: &mut Vec<&'a [u8]>,
-    line: &'a [u8],
-) -> Result<(), NoMemory>
-    ensures scripts { OnOk result (map (λ w. w.now) scripts.new.items
-        ≡ map (λ w. w.now) scripts.old.items ++ words_behind (codes "script") 1 (words_in line.now ∷ [])) }
-    ensures forks { OnOk result (map (λ w. w.now) forks.new.items
-        ≡ map (λ w. w.now) forks.old.items ++ words_behind (codes "fork") 1 (words_in line.now ∷ [])) }
-    ensures starts { OnOk result (map (λ w. w.now) starts.new.items
-        ≡ map (λ w. w.now) starts.old.items ++ words_behind (codes "start") 3 (words_in line.now ∷ [])) }
-{
-    if line.len() < SHORTEST {
-        return Ok(());
-    }
-    take_words(words, line)?;
-    collect(scripts, words, "script", 1)?;
-    collect(forks, words, "fork", 1)?;
-    collect(starts, words, "start", 3)
-}
-
 /// The names that the lines of a text give.
 #[tactic(auto, unfolding(crate::specs::Files::gather))]
-pub fn gather<'a>(alloc: Global, text: &'a [u8]) -> Result<Names<'a>, NoMemory>
-    ensures { IfOk result (λ names. names ≡ gathered (map words_in (lines_in text.now))) }
+pub fn gather<'a>(alloc: Global, cut: &Cut<'a>) -> Result<Names<'a>, NoMemory>
+    ensures { IfOk result (λ names. names ≡ gathered (map row_of (cut_rows cut.now.words.items 0 cut.now.lines.items))) }
 {
     let mut scripts = Vec::new(alloc);
     let mut forks = Vec::new(alloc);
     let mut starts = Vec::new(alloc);
-    let mut words = Vec::new(alloc);
-    let mut at = 0;
-    while let Some((from, to, next)) = next_line(text, at) {
-        gather_line(
-            &mut scripts,
-            &mut forks,
-            &mut starts,
-            &mut words,
-            &text[from..to],
-        )?;
-        at = next;
+    let mut from = 0;
+    for line in &cut.lines {
+        // A blank line gives no name.
+        if line.word_count == 0 {
+            continue;
+        }
+        let to = from + line.word_count as usize;
+        let words = &cut.words[from..to];
+        collect(&mut scripts, words, "script", 1)?;
+        collect(&mut forks, words, "fork", 1)?;
+        collect(&mut starts, words, "start", 3)?;
+        from = to;
     }
     let mut variables = Numbers::new(alloc);
     list(&mut variables, &forks)?;

@@ -2,6 +2,7 @@
 #![tactic(auto)]
 
 mod bodies;
+mod cuts;
 mod files;
 mod gather;
 mod lines;

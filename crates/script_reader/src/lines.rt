@@ -1,13 +1,13 @@
 // What a line says where it stands.
 ghost use Rattle.std.specs.Prelude.{◌≡◌, ◌<◌, ◌≤◌, ◌^◌, map, codes, IfOk};
-ghost use Rattle.byte_ends.specs.Text.{words as words_in};
 ghost use Rattle.script_reader.specs.Lines as spec;
+ghost use Rattle.script_reader.specs.MethodCuts.{read_cut};
 
 use crate::names::{Names, Numbers};
 use crate::places::Place;
 use crate::statements::{script, statement_of};
 use script_words::{
-    Kind, Verb, ended, is_skipped, is_utf8, is_word, name, node, number, verb_named, word_at,
+    Kind, Verb, ended, is_skipped, is_word, name, node, number, verb_named, word_at,
 };
 use unix_calls::{MOST_NODES, MOST_SCRIPTS, MOST_STARTS, MOST_STATEMENTS, Statement};
 
@@ -260,18 +260,16 @@ fn read_row<'a>(names: &Names<'a>, place: &Place, words: &[&'a [u8]]) -> Result<
     }
 }
 
-/// What a line says where it stands, given its words, or its first fault.
-#[tactic(auto, unfolding(crate::specs::Lines::read_line))]
+/// What a line says where it stands, given its words and whether it is UTF-8, or its first fault.
 pub fn read_line<'a>(
     names: &Names<'a>,
     place: &Place,
-    line: &'a [u8],
+    is_utf8: bool,
     words: &[&'a [u8]],
 ) -> Result<Item, Kind>
-    requires { map (λ w. w.now) words.now ≡ words_in line.now }
-    ensures { result ≡ spec.read_line names.now place.now line.now }
+    ensures { result ≡ read_cut names.now place.now (map (λ w. w.now) words.now, is_utf8) }
 {
-    if is_utf8(line) {
+    if is_utf8 {
         read_row(names, place, words)
     } else {
         Err(Kind::NotUtf8)

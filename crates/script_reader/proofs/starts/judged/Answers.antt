@@ -1,6 +1,5 @@
-use Rattle.std.proofs.Common.{◌≡◌, ◌+◌, ℕ, [], ◌∷◌, List, length, length-append, Option, Result, get_or, sym, refl, ap, ◌∙◌, arith, Ok, Err, Some, None}
+use Rattle.std.proofs.Common.{◌≡◌, [], ◌∷◌, length, length-append, Option, sym, ap, ◌∙◌, arith, Err}
 use Rattle.std.proofs.lemmas.Result.{err_from_is_err_and}
-use Rattle.unix_calls.specs.declared.Start.{Start}
 use Rattle.script_words.specs.declared.faults.Fault.{Fault}
 use Rattle.script_reader.specs.MethodReading.{judged_with}
 use Rattle.script_reader.proofs.Steps.{start-taken, start-crowds, starts-all, ends-bad, ends-fine}
