@@ -1,11 +1,12 @@
 -- an id's place among entries that rise
-use Rattle.std.proofs.Common.{◌≡◌, ◌==◌, ◌<◌, ℕ, zero, suc, Bool, true, false, nat_lt, List, [], ◌∷◌, length, get_or, ap, sym, ◌∙◌, refl, arith, Some, if◌then◌else◌, Option}
+use Rattle.std.proofs.Common.{◌≡◌, ◌==◌, ◌<◌, ℕ, zero, suc, Bool, true, false, nat_lt, List, [], ◌∷◌, length, get_or, ap, sym, ◌∙◌, refl, arith, eq-eqb, Some, if◌then◌else◌, Option}
 use Rattle.std.specs.List.{last_or}
 use Rattle.std.proofs.lemmas.Bool.{eqb-true}
+use Rattle.std.proofs.lemmas.List.{get_or_default}
 use Rattle.unix_names.specs.declared.Pid.{Pid}
 use Rattle.ordered_table.specs.declared.entries.Entry.{Entry}
 use Rattle.ordered_table.specs.Entries.{pids_of, AllUpTo, IsRising}
-use Rattle.ordered_table.proofs.RisingLaws.{above-at}
+use Rattle.ordered_table.proofs.RisingLaws.{above-at, place-at}
 use Rattle.ordered_table.specs.MethodPlaces.{place, IsFoundAt, IsVacantAt}
 
 found-later : {T : Type 0} (e : Entry T) (es : List (Entry T)) (p : Pid) (i : ℕ) → nat_lt e.pid.0 p.0 ≡ true → IsFoundAt es p i → IsFoundAt (e ∷ es) p (suc i)
@@ -56,6 +57,12 @@ found-by e es p false less rest (suc i) at lt same = absurd (omega arith)
 pub found : {T : Type 0} (es : List (Entry T)) (p : Pid) → Found es p
 found [] p i at lt same = absurd (omega arith)
 found (e ∷ es) p i at lt same = found-by e es p (nat_lt e.pid.0 p.0) refl (found es p) i at lt same
+
+-- an entry of the id has the id's place
+pub found-at : {T : Type 0} (es : List (Entry T)) (p : Pid) (i : ℕ) (e : Entry T) → IsRising es → i < length es → e ≡ get_or es i e → e.pid.0 ≡ p.0 → IsFoundAt es p i
+found-at {T} es p i e r lt at same =
+    found es p i (place-at (λ (x : Entry T). x.pid.0) es p.0 i e r lt (ap (λ (x : Entry T). x.pid.0) (sym at) ∙ same)) lt
+    (λ d. eq-eqb _ _ (ap (λ (x : Entry T). x.pid.0) (get_or_default es i d e lt ∙ sym at) ∙ same))
 
 abbrev Vacant : {T : Type 0} → List (Entry T) → Pid → Type 0
 Vacant {T} es p = (i : ℕ) → i ≡ place es p → ((d : Entry T) → i < length es → ((get_or es i d).pid.0 == p.0) ≡ false) → IsVacantAt es p i

@@ -1,5 +1,6 @@
 -- a key's place in a list whose keys rise
 use Rattle.std.proofs.Common.{◌≡◌, ◌<◌, ◌≤◌, ℕ, zero, suc, true, false, nat_lt, List, [], ◌∷◌, length, get_or, ap, refl, arith}
+use Rattle.std.proofs.lemmas.Bool.{lt-ltb, le-ltb}
 use Rattle.ordered_table.specs.Rising.{AllAboveBy, IsRisingBy, place_by}
 
 -- a key below all is below each
@@ -25,3 +26,11 @@ place-from_point key [] n (suc i) le below from = absurd (omega arith)
 place-from_point key (x ∷ xs) n zero le below from = rw (from x (omega arith)) refl
 place-from_point key (x ∷ xs) n (suc i) le below from =
     rw (below zero x (omega arith)) (ap suc (place-from_point key xs n i (omega arith) (λ k d lt. below (suc k) d (omega arith)) (λ d lt. from d (omega arith))))
+
+-- a key's place is where it stands
+pub place-at : {T : Type 0} (key : T → ℕ) (xs : List T) (n : ℕ) (i : ℕ) (d : T) → IsRisingBy key xs → i < length xs → key (get_or xs i d) ≡ n → i ≡ place_by key xs n
+place-at key [] n i d r lt same = absurd (omega arith)
+place-at key (x ∷ xs) n zero d r lt same = rw (le-ltb (key x) n (omega arith)) refl
+place-at key (x ∷ xs) n (suc i) d r lt same =
+    let above = above-at key (key x) xs i d r.0 (omega arith) in
+    rw (lt-ltb (key x) n (omega arith)) (ap suc (place-at key xs n i d r.1 (omega arith) same))

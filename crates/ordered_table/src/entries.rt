@@ -23,8 +23,60 @@ fn place<T>(entries: &[Entry<T>], pid: Pid) -> usize
     entries.partition_point(|e| e.pid.0 < pid.0)
 }
 
+// The place, if the entry there is the id's.
+fn checked_place<T>(entries: &[Entry<T>], pid: Pid, at: usize) -> Option<usize>
+    requires { IsRising entries.now }
+    ensures { IfSome result (IsFoundAt entries.now pid) }
+{
+    let entry = entries.get(at)?;
+    if entry.pid.0 == pid.0 { Some(at) } else { None }
+}
+
+// The place that is the id's if each id from the first entry's on has an entry.
+fn place_from_first<T>(entries: &[Entry<T>], pid: Pid) -> Option<usize>
+    requires { IsRising entries.now }
+    ensures { IfSome result (IsFoundAt entries.now pid) }
+{
+    let first = entries.first()?;
+    let above = pid.0.checked_sub(first.pid.0)?;
+    checked_place(entries, pid, above as usize)
+}
+
+// The place that is the id's if each id up to the last entry's has an entry.
+fn place_from_last<T>(entries: &[Entry<T>], pid: Pid) -> Option<usize>
+    requires { IsRising entries.now }
+    ensures { IfSome result (IsFoundAt entries.now pid) }
+{
+    let last = entries.last()?;
+    let below = last.pid.0.checked_sub(pid.0)?;
+    let at = (entries.len() - 1).checked_sub(below as usize)?;
+    checked_place(entries, pid, at)
+}
+
+// The id's place, where there are no ids without an entry between it and the first or the last, as mostly.
+fn guess<T>(entries: &[Entry<T>], pid: Pid) -> Option<usize>
+    requires { IsRising entries.now }
+    ensures { IfSome result (IsFoundAt entries.now pid) }
+{
+    match place_from_first(entries, pid) {
+        None => place_from_last(entries, pid),
+        found => found,
+    }
+}
+
 /// Where the id's entry stands, or where it would stand.
 pub fn search<T>(entries: &[Entry<T>], pid: Pid) -> Result<usize, usize>
+    requires { IsRising entries.now }
+    ensures found { IfOk result (IsFoundAt entries.now pid) }
+    ensures vacant { IfErr result (IsVacantAt entries.now pid) }
+{
+    match guess(entries, pid) {
+        Some(at) => Ok(at),
+        None => search_all(entries, pid),
+    }
+}
+
+fn search_all<T>(entries: &[Entry<T>], pid: Pid) -> Result<usize, usize>
     requires { IsRising entries.now }
     ensures found { IfOk result (IsFoundAt entries.now pid) }
     ensures vacant { IfErr result (IsVacantAt entries.now pid) }

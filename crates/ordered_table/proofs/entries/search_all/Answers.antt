@@ -1,8 +1,8 @@
 use Rattle.std.proofs.Common.{ap, ◌∙◌, arith, eq-eqb, ne_eqb}
 use Rattle.std.proofs.lemmas.List.{get_or_default}
 use Rattle.ordered_table.proofs.PlaceLaws.{found, vacant}
-use Rattle.ordered_table.proofs.entries.search.Goals as goal
-use Rattle.ordered_table.proofs.entries.search.Goals.{else-at-entries-via-then-at-entries+else-entries-at, else-at-entries-via-else-at-entries}
+use Rattle.ordered_table.proofs.entries.search_all.Goals as goal
+use Rattle.ordered_table.proofs.entries.search_all.Goals.{else-at-entries-via-then-at-entries+else-entries-at, else-at-entries-via-else-at-entries}
 
 pub returns-then-entries-at-clause-found : goal.returns-then-entries-at-clause-found
 returns-then-entries-at-clause-found g c =
