@@ -33,7 +33,7 @@ use Rattle.node_state.specs.Wires.{one_taken, sent_off}
 use Rattle.node_core.specs.declared.led.Led.{Led}
 use Rattle.node_core.specs.Advance.{Ask, Advanced}
 use Rattle.node_core.specs.Turns.{first_of, moved_with, going, pushed, led, arriving, came}
-use Rattle.node_core.specs.First.{led_starts, first_state, first_vproc, first_group, is_at}
+use Rattle.node_core.specs.First.{led_number, led_starts, first_state, first_vproc, first_group, is_at}
 use Rattle.cluster_state.specs.Cluster.{Cluster, first_cluster, Turned, with_wire, sends_to, delivered, turned_at, took, turned}
 use Rattle.cluster_state.specs.Possible.{IsInWorld, Does, Ran}
 use Rattle.cluster_contents.specs.Histories.{with_entry}
@@ -44,7 +44,7 @@ use Rattle.cluster_turns.proofs.InsideTurns.{LeavesInside, led_inside, came_insi
 use Rattle.cluster_turns.proofs.Turns.{SetsOut, going_sets, pushed_sets, arriving_sets}
 use Rattle.cluster_laws.specs.Wires.{StaysInside}
 use Rattle.cluster_laws.specs.Turns.{SendsToNodes}
-use Rattle.cluster_stands.proofs.FirstRecords.{led_number, vproc_put, group_put, slots_v, slots_g}
+use Rattle.cluster_stands.proofs.FirstRecords.{vproc_put, group_put, slots_v, slots_g}
 use Rattle.cluster_stands.proofs.First.{leds_apart, led_node}
 use Rattle.cluster_laws.proofs.Runs.{picked, arrived, IsRight, does_right}
 

@@ -57,11 +57,12 @@ use Rattle.unix_names.specs.Sets.{IsSignals}
 use Rattle.unix_names.proofs.SetLaws.{IsSignals-none}
 use Rattle.std.proofs.lemmas.Nat.{div-mul-add}
 use Rattle.node_core.specs.declared.led.Led.{Led}
-use Rattle.node_core.specs.First.{led_starts, first_vproc, first_group, is_at, first_state}
+use Rattle.node_core.specs.First.{led_number, led_starts, first_vproc, first_group, is_at, first_state}
+use Rattle.node_core.proofs.FirstLaws.{led-pids}
 use Rattle.cluster_state.specs.Cluster.{first_cluster}
 use Rattle.cluster_moves.specs.Benches.{items, slots}
 use Rattle.cluster_stands.specs.Stands.{StandsBy}
-use Rattle.cluster_stands.proofs.FirstRecords.{led_row, led_number, led_group, first_what, first_kind, slot_v, slot_g, leds_differ, first_agrees, boot_leds, start_led}
+use Rattle.cluster_stands.proofs.FirstRecords.{led_row, led_group, first_what, first_kind, slot_v, slot_g, first_agrees, boot_leds, start_led}
 
 -- ---- the rows of the starts
 booted_kept : (starts : List Start) (earlier : List Row) (q : Pid) (c : Row) → row_of earlier q ≡ Some c → row_of (booted earlier starts) q ≡ Some c
@@ -236,7 +237,7 @@ module _ (world : World) (valid : IsValid world) where
   leds_sound = subst IsSound (boot_leds world) (boot_sound world valid)
 
   pub leds_apart : Distinct led_number (led_starts world)
-  leds_apart = leds_differ (led_starts world) leds_first leds_sound
+  leds_apart = led-pids world valid
 
   -- a start's node is the home of its number
   start_home : (q : ℕ) (s : Start) → at start_number q world.starts ≡ Some s → cond (nat_lt (q / 1000000) world.nodes) (q / 1000000) 0 ≡ s.node.0

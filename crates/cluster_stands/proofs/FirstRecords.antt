@@ -40,16 +40,13 @@ use Rattle.kernel_laws.proofs.Rows.{number, row_pid, row_here}
 use Rattle.kernel_laws.proofs.Starts.{start_number}
 use Rattle.kernel_laws.proofs.Boot.{IsFirst}
 use Rattle.node_core.specs.declared.led.Led.{Led}
-use Rattle.node_core.specs.First.{leader_with, led_by, all_led, led_starts, first_vproc, has_leader, first_member, first_group, with_first_group, is_at, with_first, first_slots}
+use Rattle.node_core.specs.First.{led_number, leader_with, led_by, all_led, led_starts, first_vproc, has_leader, first_member, first_group, with_first_group, is_at, with_first, first_slots}
 use Rattle.decide_law.specs.Agrees.{VprocAgrees, GroupAgrees, RecordAgrees}
 
 -- ---- starts with their leaders, and rows
 -- the row of a start
 abbrev pub led_row : Led → Row
 led_row led = record { pid = led.start.pid; parent = pid 1; group = led.leader; session = led.leader; uid = led.start.uid; life = Runs; change = None; execed = false; sig = fresh }
-
-abbrev pub led_number : Led → ℕ
-led_number led = led.start.pid.0
 
 row_joined : (start : Start) (o : Option Led) → row_with start (option_map led_row o) ≡ led_row (record { start = start; leader = leader_with start o })
 row_joined start None = refl
@@ -246,9 +243,6 @@ module _ (all : List Led) (first : IsFirst (map led_row all)) (sound : IsSound (
       undo : (xs : List Led) → Distinct number (map led_row xs) → Distinct led_number xs
       undo [] d = tt
       undo (x ∷ xs) d = (none_back x.start.pid.0 (at led_number x.start.pid.0 xs) (sym (at-map led_number number led_row (λ y. refl) x.start.pid.0 xs) ∙ d.0), undo xs d.1)
-
-  pub leds_differ : Distinct led_number all
-  leds_differ = distinct
 
   no_system : row_of (map led_row all) (pid 1) ≡ None
   no_system = go (row_of (map led_row all) (pid 1)) refl

@@ -18,8 +18,8 @@ use Rattle.unix_calls.specs.Calls.{target_of}
 use Rattle.unix_names.specs.Signals.{signal_of}
 use Rattle.group_record.specs.declared.Member.{Member}
 use Rattle.group_record.specs.declared.Group.{Group}
-use Rattle.group_record.specs.Members.{lowered, least_from, begun_at}
-use Rattle.group_record.specs.Groups.{trimmed}
+use Rattle.group_record.specs.Members.{lowered, begun_at}
+use Rattle.group_record.specs.Groups.{spare, trimmed}
 use Rattle.ordered_table.specs.declared.Entry.{Entry as Held}
 use Rattle.ordered_table.specs.Entries.{with_each}
 use Rattle.record_bag.specs.declared.bag.Bag.{Bag}
@@ -143,7 +143,7 @@ settled_others q p (Some g) = others_begun q _ p g.members
 
 trimmed_others : (q : Pid) (h : Option Group) → others_in q (option_map trimmed h) ≡ others_in q h
 trimmed_others q None = refl
-trimmed_others q (Some g) = others_map q (lowered (least_from g.members)) (λ m. refl) g.members
+trimmed_others q (Some g) = others_map q (lowered (spare g)) (λ m. refl) g.members
 
 only_others : (q : Pid) (f : Option Group → Option Group) → ((h : Option Group) → others_in q (f h) ≡ others_in q h) → (id i : Pid) (h : Option Group) → others_in q (only id f i h) ≡ others_in q h
 only_others q f keeps id i h = go (i.0 == id.0)

@@ -9,8 +9,8 @@ use Rattle.unix_names.specs.declared.Pid.{Pid}
 use Rattle.vproc_record.specs.declared.Vproc.{Vproc}
 use Rattle.group_record.specs.declared.Member.{Member}
 use Rattle.group_record.specs.declared.Group.{Group}
-use Rattle.group_record.specs.Members.{member_number, member_of, has_member, least_from, lowered, begun_at}
-use Rattle.group_record.specs.Groups.{settled, trimmed}
+use Rattle.group_record.specs.Members.{member_number, member_of, has_member, lowered, begun_at}
+use Rattle.group_record.specs.Groups.{spare, settled, trimmed}
 use Rattle.group_record.proofs.LogLaws.{within-trimmed, within-settled}
 use Rattle.process_table.specs.declared.Row.{Row}
 use Rattle.process_table.specs.Rows.{row_of, in_group, AreDistinct}
@@ -70,8 +70,8 @@ not_empty f (m ∷ ms) n = λ e. cc
 pub trimmed_group : (rows : List Row) (id : Pid) (g : Group) → IsGroupOf rows id g → IsGroupOf rows id (trimmed g)
 trimmed_group rows id g k = record {
   id_is = k.id_is;
-  distinct = distinct-map member_number member_number (lowered (least_from g.members)) (λ _. refl) g.members k.distinct;
-  members = λ q. uid_of-kept (lowered (least_from g.members)) (λ _. refl) (λ _. refl) g.members q ∙ k.members q;
+  distinct = distinct-map member_number member_number (lowered (spare g)) (λ _. refl) g.members k.distinct;
+  members = λ q. uid_of-kept (lowered (spare g)) (λ _. refl) (λ _. refl) g.members q ∙ k.members q;
   session = k.session;
   from = within-trimmed g k.from;
   links = k.links;
@@ -91,7 +91,7 @@ settled_group rows id p g k = record {
 
 pub trimmed_agrees : (rows : List Row) (id : Pid) (h : Option Group) → GroupAgrees rows id h → GroupAgrees rows id (option_map trimmed h)
 trimmed_agrees rows id None a = a
-trimmed_agrees rows id (Some g) a = (not_empty (lowered (least_from g.members)) g.members a.0, trimmed_group rows id g a.1)
+trimmed_agrees rows id (Some g) a = (not_empty (lowered (spare g)) g.members a.0, trimmed_group rows id g a.1)
 
 pub settled_agrees : (rows : List Row) (id p : Pid) (h : Option Group) → GroupAgrees rows id h → GroupAgrees rows id (option_map (settled_for p) h)
 settled_agrees rows id p None a = a

@@ -1,9 +1,9 @@
 // Small families as a courier holds them, each told whole: all of user 5, and of the session of process 2.
-ghost use Rattle.std.specs.Prelude.{◌≡◌, [], IfOk, OnOk};
+ghost use Rattle.std.specs.Prelude.{◌≡◌, ◌∷◌, [], IfOk, OnOk};
 ghost use Rattle.record_bag.specs.Bags.{with_held};
 ghost use Rattle.decide_tests.specs.Families.{vproc_for, group_for, member_for, parting, two_ended, lone};
 
-use group_record::{Allow, Group, LogEntry, Member};
+use group_record::{Allow, Group, LogEntry, Member, Members};
 use record_bag::{Bag, Held};
 use std::alloc::Global;
 use unix_names::{Life, Name, NoMemory, NodeId, Pid, Seq, Signal, WaitStatus};
@@ -25,7 +25,7 @@ fn process(alloc: Global, number: u32, parent: u32, group: u32, life: Life) -> V
         execed: false,
         ignchld: false,
         loc: NodeId(0),
-        children: Children::new(),
+        children: Children::new(alloc),
         backlog: Seq::new(alloc),
     }
 }
@@ -40,7 +40,15 @@ fn member(number: u32) -> Member
     }
 }
 
-fn group(alloc: Global, id: u32, members: Seq<Member>, links: u32, stopped: u32) -> Group
+fn alone(alloc: Global, number: u32) -> Result<Members, NoMemory>
+    ensures { IfOk result (λ members. members ≡ member_for number ∷ []) }
+{
+    let mut members = Members::new(alloc);
+    members.move_last(member(number))?;
+    Ok(members)
+}
+
+fn group(alloc: Global, id: u32, members: Members, links: u32, stopped: u32) -> Group
     ensures { result ≡ group_for id members links stopped }
 {
     Group {
@@ -71,8 +79,8 @@ pub fn parting(alloc: Global, life: Life, stopped: u32) -> Result<Bag, NoMemory>
         return Err(NoMemory);
     }
     let child = process(alloc, 3, 2, 3, life);
-    let own = group(alloc, 2, Seq::from_slice(alloc, &[member(2)])?, 0, 0);
-    let other = group(alloc, 3, Seq::from_slice(alloc, &[member(3)])?, 1, stopped);
+    let own = group(alloc, 2, alone(alloc, 2)?, 0, 0);
+    let other = group(alloc, 3, alone(alloc, 3)?, 1, stopped);
     let mut bag = Bag::new(alloc);
     hold(&mut bag, Name::V(Pid(2)), Held::V(Some(parent)))?;
     hold(&mut bag, Name::V(Pid(3)), Held::V(Some(child)))?;
@@ -91,7 +99,9 @@ pub fn two_ended(alloc: Global) -> Result<Bag, NoMemory>
     }
     let elder = process(alloc, ELDER, 2, 2, Life::Ended(WaitStatus::Exited(7)));
     let younger = process(alloc, 3, 2, 2, Life::Ended(WaitStatus::Exited(8)));
-    let members = Seq::from_slice(alloc, &[member(2), member(ELDER), member(3)])?;
+    let mut members = alone(alloc, 2)?;
+    members.move_last(member(ELDER))?;
+    members.move_last(member(3))?;
     let mut bag = Bag::new(alloc);
     hold(&mut bag, Name::V(Pid(2)), Held::V(Some(parent)))?;
     hold(&mut bag, Name::V(Pid(3)), Held::V(Some(younger)))?;
@@ -108,7 +118,7 @@ pub fn two_ended(alloc: Global) -> Result<Bag, NoMemory>
 pub fn lone(alloc: Global, signal: Signal) -> Result<Bag, NoMemory>
     ensures { IfOk result (λ bag. bag ≡ lone signal) }
 {
-    let mut own = group(alloc, 2, Seq::from_slice(alloc, &[member(2)])?, 0, 0);
+    let mut own = group(alloc, 2, alone(alloc, 2)?, 0, 0);
     own.log.push(LogEntry {
         signal,
         target: None,

@@ -7,7 +7,7 @@ ghost use Rattle.decide_law.specs.Agrees.{vproc_at, group_at};
 ghost use Rattle.decide_law.specs.Base.{HasBase};
 ghost use Rattle.decide_tests.specs.Families.{fresh_own};
 
-use group_record::{Group, Member};
+use group_record::{Group, Member, Members};
 use record_bag::{Bag, Held};
 use sig_stream::{is_listed, stream_len};
 use signal_state::{Own, Sig};
@@ -27,19 +27,19 @@ fn process(alloc: Global, pid: u32, parent: u32, uid: u32) -> Vproc {
         execed: false,
         ignchld: false,
         loc: NodeId(0),
-        children: Children::new(),
+        children: Children::new(alloc),
         backlog: Seq::new(alloc),
     }
 }
 
 fn group(alloc: Global) -> Result<Group, NoMemory> {
-    let mut members = Seq::new(alloc);
-    members.push(Member {
+    let mut members = Members::new(alloc);
+    members.move_last(Member {
         pid: Pid(2),
         from: 0,
         uid: 5,
     })?;
-    members.push(Member {
+    members.move_last(Member {
         pid: Pid(3),
         from: 0,
         uid: 7,

@@ -1,3 +1,4 @@
 pub mod LogLaws
 pub mod MemberLaws
 pub mod PlaceLaws
+pub mod DistinctLaws

@@ -2,6 +2,7 @@
 use Rattle.std.proofs.Common.{◌≡◌, ◌≢◌, ◌==◌, ◌≤◌, ◌+◌, ◌-◌, ℕ, Bool, true, false, cond, not, List, [], ◌∷◌, ◌++◌, length, drop, refl, sym, ap, ◌∙◌, arith, Option, None, Some, length-drop, min}
 use Rattle.std.specs.Prelude.{map, filter, fold, is_some, All}
 use Rattle.std.specs.Option.{option_map, option_or}
+use Rattle.std.specs.List.{list_any}
 use Rattle.std.proofs.lemmas.Bool.{eqb-true, ne_eqb}
 use Rattle.std.proofs.lemmas.List.{drop-append-le, drop-drop, map-append}
 use Rattle.std.proofs.lemmas.List.Elements.{filter-append, All-map, All-weaker, All-head}
@@ -12,9 +13,9 @@ use Rattle.unix_names.specs.declared.Pid.{Pid}
 use Rattle.group_record.specs.declared.member.Member.{Member}
 use Rattle.group_record.specs.declared.log.LogEntry.{LogEntry}
 use Rattle.group_record.specs.declared.group.Group.{Group}
-use Rattle.group_record.specs.Members.{member_number, member_of, has_member, from_in, from_of, least_from, lowered, begun_at}
+use Rattle.group_record.specs.Members.{member_number, member_of, has_member, from_in, from_of, least_from, is_behind, lowered, begun_at}
 use Rattle.group_record.specs.Log.{concerns, told, log_part}
-use Rattle.group_record.specs.Groups.{joined, left, with_entry, trimmed, settled}
+use Rattle.group_record.specs.Groups.{joined, left, with_entry, spare, trimmed, settled}
 
 -- the part depends on where it begins alone
 same_part : (p : Pid) (uid : ℕ) (g h : Group) → from_of h.members p ≡ from_of g.members p → h.log ≡ g.log → log_part p uid h ≡ log_part p uid g
@@ -115,8 +116,19 @@ pub least_within : (ms : List Member) (k : ℕ) → All (λ m. m.from ≤ k) ms 
 least_within [] k a = omega arith
 least_within (m ∷ ms) k a = fold_within m.from k ms (All-head (λ x. x.from ≤ k) m ms a)
 
-pub member_of-trimmed : (g : Group) (p : Pid) → member_of (trimmed g).members p ≡ option_map (lowered (least_from g.members)) (member_of g.members p)
-member_of-trimmed g p = at-map member_number member_number (lowered (least_from g.members)) (λ _. refl) p.0 g.members
+-- and no more than the least is taken out
+spare_least : (g : Group) → spare g ≤ least_from g.members
+spare_least g = go (list_any (is_behind (length g.log)) g.members)
+  where
+    go : (b : Bool) → cond b 0 (least_from g.members) ≤ least_from g.members
+    go true = omega arith
+    go false = omega arith
+
+pub spare_within : (g : Group) → All (λ m. m.from ≤ length g.log) g.members → spare g ≤ length g.log
+spare_within g a = let least = spare_least g in let within = least_within g.members (length g.log) a in omega arith
+
+pub member_of-trimmed : (g : Group) (p : Pid) → member_of (trimmed g).members p ≡ option_map (lowered (spare g)) (member_of g.members p)
+member_of-trimmed g p = at-map member_number member_number (lowered (spare g)) (λ _. refl) p.0 g.members
 
 pub log_part-trimmed : (g : Group) (p : Pid) (uid : ℕ) → has_member g.members p ≡ true → log_part p uid (trimmed g) ≡ log_part p uid g
 log_part-trimmed g p uid has = go (member_of g.members p) refl has
@@ -124,14 +136,16 @@ log_part-trimmed g p uid has = go (member_of g.members p) refl has
     go : (o : Option Member) → member_of g.members p ≡ o → is_some o ≡ true → log_part p uid (trimmed g) ≡ log_part p uid g
     go None e h = cc
     go (Some m) e h =
-        ap (λ n. map (λ x. x.signal) (filter (concerns p uid) (drop n (drop (least_from g.members) g.log)))) (ap from_in (member_of-trimmed g p ∙ ap (option_map (lowered (least_from g.members))) e))
-        ∙ ap (λ l. map (λ x. x.signal) (filter (concerns p uid) l)) (drop_more (least_from g.members) m.from g.log (least_of g.members p.0 m e))
+        let some = spare_least g in
+        let least = least_of g.members p.0 m e in
+        ap (λ n. map (λ x. x.signal) (filter (concerns p uid) (drop n (drop (spare g) g.log)))) (ap from_in (member_of-trimmed g p ∙ ap (option_map (lowered (spare g))) e))
+        ∙ ap (λ l. map (λ x. x.signal) (filter (concerns p uid) l)) (drop_more (spare g) m.from g.log (omega arith))
         ∙ ap (λ n. map (λ x. x.signal) (filter (concerns p uid) (drop n g.log))) (sym (ap from_in e))
 
 pub within-trimmed : (g : Group) → All (λ m. m.from ≤ length g.log) g.members → All (λ m. m.from ≤ length (trimmed g).log) (trimmed g).members
 within-trimmed g a =
-    All-map (λ m. m.from ≤ length (drop (least_from g.members) g.log)) (lowered (least_from g.members)) g.members
-    (All-weaker (λ m. m.from ≤ length g.log) (λ m. (m.from - least_from g.members) ≤ length (drop (least_from g.members) g.log)) (λ m h. simp length-drop (omega arith)) g.members a)
+    All-map (λ m. m.from ≤ length (drop (spare g) g.log)) (lowered (spare g)) g.members
+    (All-weaker (λ m. m.from ≤ length g.log) (λ m. (m.from - spare g) ≤ length (drop (spare g) g.log)) (λ m h. simp length-drop (omega arith)) g.members a)
 
 -- ---- settling
 begun_pid : (from : ℕ) (p : Pid) (m : Member) → member_number (begun_at from p m) ≡ member_number m

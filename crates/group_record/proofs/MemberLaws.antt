@@ -2,26 +2,28 @@
 use Rattle.std.proofs.Common.{◌≡◌, ◌==◌, ◌≤◌, ◌-◌, ◌+◌, min, drop, take, take_all, get_or, ℕ, zero, suc, Bool, true, false, cond, not, List, [], ◌∷◌, ◌++◌, length, refl, sym, ap, ◌∙◌, arith, Option, None, Some}
 use Rattle.std.specs.Prelude.{map, filter, is_some}
 use Rattle.std.specs.Option.{option_map}
+use Rattle.std.specs.List.{list_any}
+use Rattle.std.proofs.lemmas.Bool.{le-ltb}
 use Rattle.list_laws.specs.Keyed.{at}
 use Rattle.list_laws.proofs.Finding.{at-map, same_number}
 use Rattle.unix_names.specs.declared.Pid.{Pid}
 use Rattle.group_record.specs.declared.member.Member.{Member}
 use Rattle.group_record.specs.declared.group.Group.{Group}
-use Rattle.group_record.specs.Members.{member_number, member_of, has_member, uid_of, least_of, lowered, begun_at}
+use Rattle.group_record.specs.Members.{member_number, member_of, has_member, uid_of, least_of, is_behind, lowered, begun_at}
 use Rattle.group_record.specs.Groups.{joined, left, cut, settled}
 
 -- ---- leaving
 -- who left is no member
-pub member_of-left_own : (g : Group) (p : Pid) → member_of (left g p).members p ≡ None
-member_of-left_own g p = go g.members
+pub absent-left : (p : Pid) (ms : List Member) → member_of (filter (λ m. not (m.pid.0 == p.0)) ms) p ≡ None
+absent-left p [] = refl
+absent-left p (m ∷ ms) = step (m.pid.0 == p.0) refl (absent-left p ms)
   where
-    step : (m : Member) (ms : List Member) (b : Bool) → (m.pid.0 == p.0) ≡ b → at member_number p.0 (filter (λ m. not (m.pid.0 == p.0)) ms) ≡ None → at member_number p.0 (cond (not b) (m ∷ filter (λ m. not (m.pid.0 == p.0)) ms) (filter (λ m. not (m.pid.0 == p.0)) ms)) ≡ None
-    step m ms true e h = h
-    step m ms false e h = rw e h
+    step : (b : Bool) → (m.pid.0 == p.0) ≡ b → at member_number p.0 (filter (λ m. not (m.pid.0 == p.0)) ms) ≡ None → at member_number p.0 (cond (not b) (m ∷ filter (λ m. not (m.pid.0 == p.0)) ms) (filter (λ m. not (m.pid.0 == p.0)) ms)) ≡ None
+    step true e h = h
+    step false e h = rw e h
 
-    go : (ms : List Member) → at member_number p.0 (filter (λ m. not (m.pid.0 == p.0)) ms) ≡ None
-    go [] = refl
-    go (m ∷ ms) = step m ms (m.pid.0 == p.0) refl (go ms)
+pub member_of-left_own : (g : Group) (p : Pid) → member_of (left g p).members p ≡ None
+member_of-left_own g p = absent-left p g.members
 
 -- ---- changes of members that keep their pids and user ids
 pub uid_of-kept : (f : Member → Member) → ((m : Member) → member_number (f m) ≡ member_number m) → ((m : Member) → (f m).uid ≡ m.uid) → (ms : List Member) (q : Pid) → uid_of (map f ms) q ≡ uid_of ms q
@@ -115,3 +117,9 @@ least_of-four n a b c e ms d four ia ib ic ie =
     ∙ ap (λ i. least_of i (take (length ms - 2) ms)) ib ∙ least_of-one a ms (length ms - 2) (length ms - 1) d (omega arith) (omega arith)
     ∙ ap (λ i. least_of i (take (length ms - 1) ms)) ia ∙ least_of-one n ms (length ms - 1) (length ms) d (omega arith) (omega arith)
     ∙ ap (least_of n) (take_all (length ms) ms (omega arith))
+
+-- ---- who is behind
+-- nobody in an empty log
+pub none_behind : (ms : List Member) → list_any (is_behind 0) ms ≡ false
+none_behind [] = refl
+none_behind (m ∷ ms) = rw (le-ltb m.from (0 - m.from) (omega arith)) (none_behind ms)

@@ -1,12 +1,13 @@
 -- where a process stands among the members
-use Rattle.std.proofs.Common.{◌≡◌, ◌==◌, ◌≤◌, ◌<◌, ◌+◌, ◌-◌, ℕ, zero, suc, Bool, true, false, cond, List, [], ◌∷◌, ◌++◌, length, take, drop, get_or, slice_get, slice_set, refl, sym, ap, ◌∙◌, subst, arith, length-drop, take_all, Some, if◌then◌else◌}
-use Rattle.std.specs.Prelude.{map}
-use Rattle.std.proofs.lemmas.List.{drop-drop, get_or_default}
+use Rattle.std.proofs.Common.{◌≡◌, ◌==◌, ◌≤◌, ◌<◌, ◌+◌, ◌-◌, ℕ, zero, suc, Bool, true, false, cond, List, [], ◌∷◌, ◌++◌, length, take, drop, get_or, slice_get, slice_set, refl, sym, ap, ◌∙◌, arith, length-drop, length-take, take_all, Some, None, if◌then◌else◌}
+use Rattle.std.specs.Prelude.{map, is_some}
+use Rattle.std.proofs.lemmas.List.{get_or_default}
+use Rattle.std.proofs.lemmas.Option.{slice_get_past, slice_get-get_or}
 use Rattle.std.proofs.lemmas.List.Edits.{map_over_more}
 use Rattle.std.proofs.Math.ListN.{length-set}
 use Rattle.unix_names.specs.declared.Pid.{Pid}
 use Rattle.group_record.specs.declared.member.Member.{Member}
-use Rattle.group_record.specs.Members.{member_of, lowered, begun_at}
+use Rattle.group_record.specs.Members.{member_of, has_member, lowered}
 use Rattle.group_record.specs.MethodPlaces.{others_first}
 
 pub place-within : (p : Pid) (ms : List Member) → others_first p ms ≤ length ms
@@ -26,90 +27,42 @@ place-member p (m ∷ ms) = go (m.pid.0 == p.0) (place-member p ms)
     go true rest = refl
     go false rest = rest
 
--- nobody stands before the one who stands there
-pub place-again : (p : Pid) (ms : List Member) → others_first p (drop (others_first p ms) ms) ≡ 0
-place-again p [] = refl
-place-again p (m ∷ ms) = go (m.pid.0 == p.0) refl (place-again p ms)
+-- who stands nowhere is no member
+pub place-absent : (p : Pid) (ms : List Member) → length ms ≤ others_first p ms → member_of ms p ≡ None
+place-absent p ms past = sym (place-member p ms) ∙ slice_get_past ms (others_first p ms) past
+
+-- who stands somewhere is one
+pub place-present : (p : Pid) (ms : List Member) (d : Member) → others_first p ms < length ms → has_member ms p ≡ true
+place-present p ms d within = ap is_some (sym (place-member p ms) ∙ slice_get-get_or ms (others_first p ms) d within)
+
+-- ---- looking among the first few, and then among the rest
+pub place-early : (p : Pid) (k : ℕ) (ms : List Member) → others_first p (take k ms) < length (take k ms) → others_first p (take k ms) ≡ others_first p ms
+place-early p zero ms early = absurd (omega arith)
+place-early p (suc k) [] early = absurd (omega arith)
+place-early p (suc k) (m ∷ ms) early = go (m.pid.0 == p.0) early (place-early p k ms)
   where
-    go : (b : Bool) → (m.pid.0 == p.0) ≡ b → others_first p (drop (others_first p ms) ms) ≡ 0 → others_first p (drop (if b then zero else suc (others_first p ms)) (m ∷ ms)) ≡ 0
-    go true e rest = rw e refl
-    go false e rest = rest
+    go : (b : Bool) → (if b then zero else suc (others_first p (take k ms))) < suc (length (take k ms)) → (others_first p (take k ms) < length (take k ms) → others_first p (take k ms) ≡ others_first p ms) → (if b then zero else suc (others_first p (take k ms))) ≡ (if b then zero else suc (others_first p ms))
+    go true h rest = refl
+    go false h rest = ap suc (rest (omega arith))
 
-pub place-here : (p : Pid) (a : ℕ) (ms : List Member) (x : Member) → slice_get ms a ≡ Some x → others_first p (drop a ms) ≡ 0 → (x.pid.0 == p.0) ≡ true
-place-here p zero [] x there none = cc
-place-here p zero (m ∷ ms) x there none = go (m.pid.0 == p.0) refl none
+pub place-late : (p : Pid) (k : ℕ) (ms : List Member) → k ≤ length ms → length (take k ms) ≤ others_first p (take k ms) → k + others_first p (drop k ms) ≡ others_first p ms
+place-late p zero ms within late = omega arith
+place-late p (suc k) [] within late = absurd (omega arith)
+place-late p (suc k) (m ∷ ms) within late = go (m.pid.0 == p.0) late (place-late p k ms (omega arith))
   where
-    go : (b : Bool) → (m.pid.0 == p.0) ≡ b → (if b then zero else suc (others_first p ms)) ≡ 0 → (x.pid.0 == p.0) ≡ true
-    go true e n = let same : m ≡ x = cc in ap (λ (y : Member). y.pid.0 == p.0) (sym same) ∙ e
-    go false e n = absurd (omega arith)
-place-here p (suc a) [] x there none = cc
-place-here p (suc a) (m ∷ ms) x there none = place-here p a ms x there none
+    go : (b : Bool) → suc (length (take k ms)) ≤ (if b then zero else suc (others_first p (take k ms))) → (length (take k ms) ≤ others_first p (take k ms) → k + others_first p (drop k ms) ≡ others_first p ms) → suc k + others_first p (drop k ms) ≡ (if b then zero else suc (others_first p ms))
+    go true h rest = absurd (omega arith)
+    go false h rest = let more : k + others_first p (drop k ms) ≡ others_first p ms = rest (omega arith) in omega arith
 
--- the others stay
-begun-before : (n : ℕ) (p : Pid) (ms : List Member) → map (begun_at n p) ms ≡ take (others_first p ms) ms ++ map (begun_at n p) (drop (others_first p ms) ms)
-begun-before n p [] = refl
-begun-before n p (m ∷ ms) = go (m.pid.0 == p.0) refl (begun-before n p ms)
-  where
-    go : (b : Bool) → (m.pid.0 == p.0) ≡ b → map (begun_at n p) ms ≡ take (others_first p ms) ms ++ map (begun_at n p) (drop (others_first p ms) ms) → map (begun_at n p) (m ∷ ms) ≡ take (if b then zero else suc (others_first p ms)) (m ∷ ms) ++ map (begun_at n p) (drop (if b then zero else suc (others_first p ms)) (m ∷ ms))
-    go true e rest = refl
-    go false e rest = ap (λ (b : Bool). cond b (record m { from = n }) m ∷ map (begun_at n p) ms) e ∙ ap (λ l. m ∷ l) rest
-
-pub begun-past : (n : ℕ) (p : Pid) (a : ℕ) (ms : List Member) (j : ℕ) → a ≤ length ms → j ≡ a + others_first p (drop a ms) →
-    take a ms ++ map (begun_at n p) (drop a ms) ≡ take j ms ++ map (begun_at n p) (drop j ms)
-begun-past n p zero ms j within e = let h : others_first p ms ≡ j = omega arith in begun-before n p ms ∙ ap (λ i. take i ms ++ map (begun_at n p) (drop i ms)) h
-begun-past n p (suc a) [] j within e = absurd (omega arith)
-begun-past n p (suc a) (m ∷ ms) zero within e = absurd (omega arith)
-begun-past n p (suc a) (m ∷ ms) (suc j) within e = ap (λ l. m ∷ l) (begun-past n p a ms j (omega arith) (omega arith))
-
-pub begun-here : (n : ℕ) (p : Pid) (a : ℕ) (ms : List Member) (x : Member) (j : ℕ) → slice_get ms a ≡ Some x → (x.pid.0 == p.0) ≡ true → j ≡ a + 1 →
-    take a ms ++ map (begun_at n p) (drop a ms) ≡ take j (slice_set ms a (record x { from = n })) ++ map (begun_at n p) (drop j (slice_set ms a (record x { from = n })))
-begun-here n p zero [] x j there own e = cc
-begun-here n p zero (m ∷ ms) x zero there own e = absurd (omega arith)
-begun-here n p zero (m ∷ ms) x (suc zero) there own e =
-    let same : m ≡ x = cc in ap (λ (y : Member). begun_at n p y ∷ map (begun_at n p) ms) same ∙ ap (λ (b : Bool). cond b (record x { from = n }) x ∷ map (begun_at n p) ms) own
-begun-here n p zero (m ∷ ms) x (suc (suc j)) there own e = absurd (omega arith)
-begun-here n p (suc a) [] x j there own e = cc
-begun-here n p (suc a) (m ∷ ms) x zero there own e = absurd (omega arith)
-begun-here n p (suc a) (m ∷ ms) x (suc j) there own e = ap (λ l. m ∷ l) (begun-here n p a ms x j there own (omega arith))
-
--- how far the members have changed: those before the place have, and there stands the next one, if any
-pub record Reached (n : ℕ) (p : Pid) (old : List Member) (a : ℕ) (ms : List Member) : Type 0 where
-  pub within : a ≤ length ms
-  pub next : others_first p (drop a ms) ≡ 0
-  pub done : map (begun_at n p) old ≡ take a ms ++ map (begun_at n p) (drop a ms)
-
-pub begun-first : (n : ℕ) (p : Pid) (ms : List Member) (k : ℕ) → k ≡ others_first p ms → Reached n p ms k ms
-begun-first n p ms k e = rw e (record { within = place-within p ms; next = place-again p ms; done = begun-before n p ms })
-
-pub begun-next : (n : ℕ) (p : Pid) (old : List Member) (a : ℕ) (ms ys : List Member) (x : Member) (j : ℕ) → Reached n p old a ms → a < length ms → slice_get ms a ≡ Some x → ys ≡ slice_set ms a (record x { from = n }) →
-    j ≡ (a + 1) + others_first p (drop (a + 1) ys) → Reached n p old j ys
-begun-next n p old a ms ys x j r lt there is e =
-    let own : (x.pid.0 == p.0) ≡ true = place-here p a ms x there r.next in
-    let long : length ys ≡ length ms = ap length is ∙ length-set ms a (record x { from = n }) in
-    let far : others_first p (drop (a + 1) ys) ≤ length (drop (a + 1) ys) = place-within p (drop (a + 1) ys) in
-    let left : length (drop (a + 1) ys) ≡ length ys - (a + 1) = length-drop (a + 1) ys in
-    let here = subst (λ (l : List Member). take a ms ++ map (begun_at n p) (drop a ms) ≡ take (a + 1) l ++ map (begun_at n p) (drop (a + 1) l)) (sym is) (begun-here n p a ms x (a + 1) there own refl) in
-    record {
-      within = omega arith;
-      next = ap (λ i. others_first p (drop i ys)) e ∙ ap (others_first p) (sym (drop-drop (others_first p (drop (a + 1) ys)) (a + 1) ys)) ∙ place-again p (drop (a + 1) ys);
-      done = r.done ∙ here ∙ begun-past n p (a + 1) ys j (omega arith) e;
-    }
-
-pub begun-all : (n : ℕ) (p : Pid) (old : List Member) (a : ℕ) (ms : List Member) → Reached n p old a ms → length ms ≤ a → ms ≡ map (begun_at n p) old
-begun-all n p old a ms r past = sym (r.done ∙ whole a ms (omega arith))
-  where
-    whole : (a : ℕ) (ms : List Member) → length ms ≤ a → take a ms ++ map (begun_at n p) (drop a ms) ≡ ms
-    whole zero [] h = refl
-    whole (suc a) [] h = refl
-    whole zero (m ∷ ms) h = absurd (omega arith)
-    whole (suc a) (m ∷ ms) h = ap (λ l. m ∷ l) (whole a ms (omega arith))
+pub found-early : (p : Pid) (k : ℕ) (ms : List Member) (j : ℕ) → k ≤ length ms → j ≡ others_first p (take k ms) → j < k → j ≡ others_first p ms
+found-early p k ms j within is early = let long = length-take k ms in is ∙ place-early p k ms (omega arith)
 
 -- the slice from a place on, as far as the list goes
-pub to-end : (p : Pid) (a : ℕ) (ys : List Member) (k : ℕ) → k ≡ others_first p (take (length ys - a) (drop a ys)) → k ≡ others_first p (drop a ys)
-to-end p a ys k e = let left = length-drop a ys in e ∙ ap (others_first p) (take_all (length ys - a) (drop a ys) (omega arith))
+to-end : (p : Pid) (a : ℕ) (ys : List Member) → others_first p (take (length ys - a) (drop a ys)) ≡ others_first p (drop a ys)
+to-end p a ys = let left = length-drop a ys in ap (others_first p) (take_all (length ys - a) (drop a ys) (omega arith))
 
-pub end-within : (p : Pid) (a : ℕ) (ys : List Member) (k : ℕ) → k ≡ others_first p (take (length ys - a) (drop a ys)) → k ≤ length ys - a
-end-within p a ys k e = let left = length-drop a ys in let h = place-within p (drop a ys) in let same = to-end p a ys k e in omega arith
+pub found-late : (p : Pid) (k : ℕ) (ms : List Member) (j i : ℕ) → k ≤ length ms → j ≡ others_first p (take k ms) → k ≤ j → i ≡ others_first p (take (length ms - k) (drop k ms)) → k + i ≡ others_first p ms
+found-late p k ms j i within is late more = let long = length-take k ms in ap (λ n. k + n) (more ∙ to-end p k ms) ∙ place-late p k ms within (omega arith)
 
 -- how far the members have been lowered
 pub record IsLowered (by : ℕ) (old : List Member) (a : ℕ) (ms : List Member) : Type 0 where

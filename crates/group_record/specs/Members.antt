@@ -1,5 +1,5 @@
 -- the members of a group, by process id
-use Rattle.std.specs.Prelude.{ℕ, Bool, ◌==◌, ◌-◌, min, List, [], ◌∷◌, fold, Option, None, Some, is_some, if◌then◌else◌}
+use Rattle.std.specs.Prelude.{ℕ, Bool, ◌==◌, nat_lt, ◌-◌, min, List, [], ◌∷◌, fold, Option, None, Some, is_some, if◌then◌else◌}
 use Rattle.std.specs.Option.{option_map}
 use Rattle.list_laws.specs.Keyed.{at}
 use Rattle.unix_names.specs.declared.Pid.{Pid}
@@ -35,6 +35,10 @@ least_of n ms = fold (λ least x. min least x.from) n ms
 abbrev pub least_from : List Member → ℕ
 least_from [] = 0
 least_from (m ∷ ms) = least_of m.from ms
+
+-- whether a member has passed less than half of a log of that length
+abbrev pub is_behind : ℕ → Member → Bool
+is_behind all m = nat_lt m.from (all - m.from)
 
 abbrev pub lowered : ℕ → Member → Member
 lowered by m = record m { from = m.from - by }

@@ -3,10 +3,11 @@ ghost use Rattle.std.specs.Prelude.{◌≡◌, ◌≢◌, ◌≤◌, ◌++◌, [
 ghost use Rattle.unix_names.specs.declared.Pid.{Pid};
 ghost use Rattle.group_record.specs.Members.{member_of, has_member, from_of, begun_at};
 ghost use Rattle.group_record.specs.Log.{log_part, told};
-ghost use Rattle.group_record.specs.Groups.{joined, left, with_entry, cut, trimmed, settled};
+ghost use Rattle.group_record.specs.Groups.{joined, left, with_entry, cut, spare, trimmed, settled};
 
 use crate::log::{Allow, LogEntry, drop_front, entries_from};
-use crate::member::{Member, begin_at, least_from, lower_each, member_of};
+use crate::member::Member;
+use crate::members::Members;
 use unix_names::{NoMemory, Pid, Seq, Signal};
 
 /// The record of a process group.
@@ -15,7 +16,7 @@ pub struct Group {
     pub id: Pid,
     pub session: Pid,
     /// The processes of the group, ended ones too, in the order in which they joined.
-    pub members: Seq<Member>,
+    pub members: Members,
     /// The signals that were sent to the group and that some member may not have taken.
     pub log: Seq<LogEntry>,
     /// How many living members have a parent in the session and outside the group.
@@ -29,14 +30,14 @@ impl Group {
     pub fn member_of(&self, p: Pid) -> Option<Member>
         ensures { result ≡ member_of self.now.members p }
     {
-        member_of(self.members.as_slice(), p)
+        self.members.member_of(p)
     }
 
     /// Whether a process is a member.
     pub fn has_member(&self, p: Pid) -> bool
         ensures { result ≡ has_member self.now.members p }
     {
-        self.member_of(p).is_some()
+        self.members.has(p)
     }
 
     /// The entries of the log from where a process's part begins. For who is no member that is the whole log.
@@ -47,11 +48,7 @@ impl Group {
         if self.log.is_empty() {
             return self.log.as_slice();
         }
-        let from = match self.member_of(p) {
-            None => 0,
-            Some(m) => m.from,
-        };
-        entries_from(self.log.as_slice(), from)
+        entries_from(self.log.as_slice(), self.members.from_of(p))
     }
 
     /// Whether there are no members. It takes no memory.
@@ -70,8 +67,7 @@ impl Group {
         ensures others { OnOk result ((q : Pid) (u : ℕ) → q.0 ≢ p.0 → log_part q u self.new ≡ log_part q u self.old) }
     {
         let from = self.log.len() as u64;
-        self.members.push(Member { pid: p, from, uid })?;
-        Ok(())
+        self.members.add(Member { pid: p, from, uid })
     }
 
     /// Takes a process out of the members; the others keep their order. Tells whether it was there. It takes no memory.
@@ -80,9 +76,7 @@ impl Group {
         ensures left { self.new ≡ left self.old p }
         ensures others { (q : Pid) (u : ℕ) → q.0 ≢ p.0 → log_part q u self.new ≡ log_part q u self.old }
     {
-        let was = self.has_member(p);
-        self.members.retain(|m| m.pid != p);
-        was
+        self.members.remove(p)
     }
 
     /// Puts a signal at the end of the log. No target means every member.
@@ -104,15 +98,24 @@ impl Group {
         Ok(())
     }
 
-    /// Drops from the front of the log what no member has still to take: as many entries as the least `from` says. Each `from` is lowered by that number. It takes no memory.
+    /// Drops from the front of the log what no member has still to take: as many entries as the least `from` says, once that is half of the log. Each `from` is lowered by that number. It takes no memory.
     pub fn trim(&mut self)
         requires { All (λ m. m.from ≤ length self.old.log) self.old.members }
         ensures trimmed { self.new ≡ trimmed self.old }
         ensures streams { (p : Pid) (uid : ℕ) → has_member self.old.members p ≡ true → log_part p uid self.new ≡ log_part p uid self.old }
         ensures within { All (λ m. m.from ≤ length self.new.log) self.new.members }
     {
-        let least = least_from(self.members.as_slice());
-        self.cut(least);
+        let count = self.spare();
+        self.cut(count);
+    }
+
+    fn spare(&self) -> u64
+        ensures { result ≡ spare self.now }
+    {
+        if self.members.has_behind(self.log.len() as u64) {
+            return 0;
+        }
+        self.members.least_from()
     }
 
     fn cut(&mut self, count: u64)
@@ -123,7 +126,7 @@ impl Group {
         if count == 0 {
             return;
         }
-        lower_each(self.members.as_mut_slice(), count);
+        self.members.lower_each(count);
         drop_front(&mut self.log, count as usize);
     }
 
@@ -144,7 +147,7 @@ impl Group {
         ensures settled { self.new ≡ settled self.old p }
     {
         let end = self.log.len() as u64;
-        begin_at(self.members.as_mut_slice(), end, p)
+        self.members.begin_at(end, p)
     }
 
     /// The entries of the log from a place on; none past the end.
@@ -158,14 +161,14 @@ impl Group {
     pub fn begin_at(&mut self, from: u64, p: Pid)
         ensures { self.new ≡ record self.old { members = map (begun_at from p) self.old.members } }
     {
-        begin_at(self.members.as_mut_slice(), from, p);
+        self.members.begin_at(from, p);
     }
 
     /// An equal record.
     pub fn copy(&self) -> Result<Group, NoMemory>
         ensures { IfOk result (λ g. g ≡ self.now) }
     {
-        let members = self.members.clone()?;
+        let members = self.members.copy()?;
         let log = self.log.clone()?;
         Ok(Group {
             id: self.id,

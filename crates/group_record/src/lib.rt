@@ -4,7 +4,9 @@
 mod group;
 mod log;
 mod member;
+mod members;
 
 pub use group::Group;
 pub use log::{Allow, LogEntry};
 pub use member::Member;
+pub use members::Members;

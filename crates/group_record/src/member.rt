@@ -1,6 +1,8 @@
 // The members of a group.
-ghost use Rattle.std.specs.Prelude.{◌≡◌, ◌<◌, ◌+◌, length, drop, map, slice_get};
-ghost use Rattle.group_record.specs.Members.{member_of, from_in, from_of, least_of, least_from, lowered, begun_at};
+ghost use Rattle.std.specs.Prelude.{◌≡◌, ◌<◌, ◌++◌, ◌∷◌, [], length, map, slice_get, remove, IsTrue, IfSome};
+ghost use Rattle.std.specs.List.{list_any};
+ghost use Rattle.list_laws.specs.Keyed.{Distinct};
+ghost use Rattle.group_record.specs.Members.{member_number, from_in, least_of, least_from, is_behind, lowered, begun_at};
 ghost use Rattle.group_record.specs.MethodPlaces.{others_first};
 
 use unix_names::Pid;
@@ -29,7 +31,7 @@ fn place_among(members: &[Member], p: Pid) -> usize
 }
 
 // How many members stand before the first process of that id.
-fn place_of(members: &[Member], p: Pid) -> usize
+pub(crate) fn place_of(members: &[Member], p: Pid) -> usize
     ensures { result ≡ others_first p members.now }
 {
     // Four at a time, since a group may have hundreds.
@@ -43,21 +45,33 @@ fn place_of(members: &[Member], p: Pid) -> usize
     members.len() - rest.len() + place_among(rest, p)
 }
 
-// Where the next process of that id stands after a place, or else the end.
-fn place_after(members: &[Member], at: usize, p: Pid) -> usize
-    requires { at < length members.now }
-    ensures { result ≡ (at + 1) + others_first p (drop (at + 1) members.now) }
+// Whether the process stands at a place. Nobody else has its id, so that is where it stands.
+pub(crate) fn stands_at(members: &[Member], at: usize, p: Pid) -> bool
+    requires { Distinct member_number members.now }
+    ensures { IsTrue result → at ≡ others_first p members.now }
 {
-    at + 1 + place_of(&members[at + 1..], p)
+    match members.get(at) {
+        None => false,
+        Some(m) => m.pid == p,
+    }
 }
 
-pub(crate) fn member_of(members: &[Member], p: Pid) -> Option<Member>
-    ensures { result ≡ member_of members.now p }
+// Where the process stands, if that is between two places, the second not counted.
+pub(crate) fn place_within(members: &[Member], from: usize, to: usize, p: Pid) -> Option<usize>
+    requires { Distinct member_number members.now }
+    ensures { IfSome result (λ at. at ≡ others_first p members.now) }
 {
-    member_at(members, place_of(members, p))
+    let end = to.min(members.len());
+    let begin = from.min(end);
+    let at = place_of(&members[begin..end], p).saturating_add(begin);
+    if stands_at(members, at, p) {
+        Some(at)
+    } else {
+        None
+    }
 }
 
-fn member_at(members: &[Member], at: usize) -> Option<Member>
+pub(crate) fn member_at(members: &[Member], at: usize) -> Option<Member>
     ensures { result ≡ slice_get members.now at }
 {
     match members.get(at) {
@@ -98,6 +112,29 @@ fn least_among(start: u64, members: &[Member]) -> u64
     members.iter().fold(start, |least, m| least.min(m.from))
 }
 
+fn is_behind(m: &Member, all: u64) -> bool
+    ensures { result ≡ is_behind all m.now }
+{
+    m.from < all.saturating_sub(m.from)
+}
+
+// Whether a member has passed less than half of a log of that length. The last ones come first, since who joined early has mostly gone on. In an empty log nobody is behind.
+pub(crate) fn has_behind(members: &[Member], all: u64) -> bool
+    ensures { result ≡ list_any (is_behind all) members.now }
+{
+    if all == 0 {
+        return false;
+    }
+    let mut rest = members;
+    while let [others @ .., m] = rest {
+        if is_behind(m, all) {
+            return true;
+        }
+        rest = others;
+    }
+    false
+}
+
 fn lower(m: &mut Member, by: u64)
     ensures { m.new ≡ lowered by m.old }
 {
@@ -122,7 +159,7 @@ pub(crate) fn lower_each(members: &mut [Member], by: u64)
     }
 }
 
-fn from_at(members: &[Member], at: usize) -> u64
+pub(crate) fn from_at(members: &[Member], at: usize) -> u64
     ensures { result ≡ from_in (slice_get members.now at) }
 {
     match members.get(at) {
@@ -131,16 +168,22 @@ fn from_at(members: &[Member], at: usize) -> u64
     }
 }
 
-// A process's part of the log begins at this place, if it is a member. Answers where it began before.
-pub(crate) fn begin_at(members: &mut [Member], from: u64, p: Pid) -> u64
-    ensures began { result ≡ from_of members.old p }
-    ensures begun { members.new ≡ map (begun_at from p) members.old }
+// The part of the log of who stands at this place begins elsewhere, if anyone stands there.
+pub(crate) fn begin_at(members: &mut [Member], at: usize, from: u64, p: Pid)
+    requires distinct { Distinct member_number members.old }
+    requires place { at ≡ others_first p members.old }
+    ensures { members.new ≡ map (begun_at from p) members.old }
 {
-    let mut at = place_of(members, p);
-    let began = from_at(members, at);
-    while at < members.len() {
+    if at < members.len() {
         members[at].from = from;
-        at = place_after(members, at, p);
     }
-    began
+}
+
+// In the place of a member another stands at the end; those behind it move up.
+pub(crate) fn replace_by_last(members: &mut [Member], at: usize, m: Member)
+    requires { at < length members.old }
+    ensures { members.new ≡ remove members.old at ++ m ∷ [] }
+{
+    members[at] = m;
+    members[at..].rotate_left(1);
 }

@@ -36,6 +36,10 @@ all_led earlier (start ∷ starts) = all_led (earlier ++ led_by earlier start �
 abbrev pub led_starts : World → List Led
 led_starts world = all_led [] world.starts
 
+-- the pid of a start
+abbrev pub led_number : Led → ℕ
+led_number led = led.start.pid.0
+
 -- the record of a start, whose parent is the system process
 abbrev pub first_vproc : Led → Vproc
 first_vproc led = record {

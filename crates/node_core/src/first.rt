@@ -2,11 +2,12 @@
 ghost use Rattle.std.specs.Prelude.{◌≡◌, ◌≤◌, ◌<◌, ◌+◌, ◌++◌, [], false, length, slice_get, IfOk, OnOk};
 ghost use Rattle.unix_calls.specs.Valid.{IsValid, starts_at};
 ghost use Rattle.std.specs.Option.{option_map_or};
-ghost use Rattle.node_core.specs.First.{led_by, led_starts, first_vproc, first_group, with_first, first_slots, is_at, ready_from, first_state};
+ghost use Rattle.list_laws.specs.Keyed.{Distinct};
+ghost use Rattle.node_core.specs.First.{led_number, led_by, led_starts, first_vproc, first_group, with_first, first_slots, is_at, ready_from, first_state};
 
 use crate::led::Led;
 use courier_core::Courier;
-use group_record::{Group, Member};
+use group_record::{Group, Member, Members};
 use node_state::{ReadyQueue, State, Waiting};
 use ordered_table::SparseTable;
 use proc_image::Image;
@@ -55,18 +56,19 @@ fn first_vproc(alloc: Global, led: &Led) -> Vproc
         execed: false,
         ignchld: false,
         loc: led.start.node,
-        children: Children::new(),
+        children: Children::new(alloc),
         backlog: Seq::new(alloc),
     }
 }
 
 fn first_group(alloc: Global, all: &[Led], leader: Pid) -> Result<Group, NoMemory>
+    requires { Distinct led_number all.now }
     ensures { IfOk result (λ group. group ≡ first_group all.now leader) }
 {
-    let mut members = Seq::new(alloc);
+    let mut members = Members::new(alloc);
     for led in all {
         if led.leader.0 == leader.0 {
-            members.push(Member {
+            members.add(Member {
                 pid: led.start.pid,
                 from: 0,
                 uid: led.start.uid,
@@ -91,6 +93,7 @@ fn add_first(
     slots: &mut Slots<Courier>,
     led: &Led,
 ) -> Result<(), NoMemory>
+    requires { Distinct led_number all.now }
     ensures { OnOk result (slots.new ≡ with_first id all.now slots.old led.now) }
 {
     if led.start.node.0 != id {
@@ -105,6 +108,7 @@ fn add_first(
 }
 
 fn first_slots(alloc: Global, id: u32, all: &[Led]) -> Result<Slots<Courier>, NoMemory>
+    requires { Distinct led_number all.now }
     ensures { IfOk result (λ slots. slots ≡ first_slots id all.now (record { vprocs = []; groups = [] }) all.now) }
 {
     let mut slots = Slots::new(alloc);

@@ -25,7 +25,7 @@ use Rattle.record_bag.specs.declared.vector.Outcome.TheVariants as outcome
 use Rattle.record_bag.specs.Bags.{present, vproc_in, group_in}
 use Rattle.record_bag.specs.Decisions.{answered}
 use Rattle.process_table.specs.declared.Row.{Row}
-use Rattle.decide_law.specs.Agrees.{vproc_at, group_at, IsGroupOf, Agrees, links_in, stopped_in}
+use Rattle.decide_law.specs.Agrees.{vproc_at, group_at, Agrees}
 use Rattle.decide_law.specs.Base.{HasBase}
 use Rattle.decide_law.specs.Counts.{passes}
 use Rattle.decide_law.specs.Effects.{written, folded, emptied, settled_in, trimmed_in, done_by, on_base, regroups, unless_empty_by}
@@ -36,11 +36,11 @@ use Rattle.decide_law.proofs.NeedParts.{asked_for, all_held}
 use Rattle.decide_law.proofs.RoundParts.{parts_whole, base_answer}
 use Rattle.decide_law.proofs.Records.{only_same}
 use Rattle.decide_law.proofs.SettledFootprints.{seen}
-use Rattle.decide_law.proofs.Shell.{settled_agree, group_is}
+use Rattle.decide_law.proofs.Shell.{settled_agree}
 use Rattle.ops_ending.specs.Ending.{vanishes, goes, ended_vproc, end_effect, left_group, left_members, end_nudges, nudged_in}
 use Rattle.decide_law.specs.Vector.{IsFitting}
 use Rattle.ops_ending.specs.declared.left_vprocs.End.{End}
-use Rattle.ops_ending.specs.MethodEnding.{IsCounted, IsCountedIn, IsLeft, end_of, entries_by, held_told_by, held_untold_by, held_thinned_by, held_group_by, nudged_by, nudges_in, end_answer}
+use Rattle.ops_ending.specs.MethodEnding.{IsCountedIn, IsLeft, end_of, entries_by, held_told_by, held_untold_by, held_thinned_by, held_group_by, nudged_by, nudges_in, end_answer}
 use Rattle.ops_ending.proofs.Partly.{entry_found}
 
 -- ---- children

@@ -8,8 +8,7 @@ use Rattle.vproc_record.specs.declared.Vproc.{Vproc}
 use Rattle.vproc_record.specs.Vprocs.{without_child}
 use Rattle.group_record.specs.declared.Group.{Group}
 use Rattle.record_bag.specs.declared.bag.Bag.{Bag}
-use Rattle.record_bag.specs.Bags.{vproc_in}
-use Rattle.decide_law.specs.Counts.{passes, is_link_to, is_stopped_to, count_passing}
+use Rattle.decide_law.specs.Counts.{is_link_to, is_stopped_to, count_passing}
 use Rattle.ops_ending.specs.declared.left_vprocs.End.{End}
 use Rattle.ops_ending.specs.MethodEnding.{IsCounted, own_left, later_by, recounted_by}
 use Rattle.decide_law.proofs.FewCounts.{few_passing}

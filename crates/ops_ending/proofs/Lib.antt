@@ -12,3 +12,4 @@ pub mod LaterRecords
 pub mod Partly
 pub mod EndCode
 pub mod EndParts
+pub mod Kept

@@ -14,7 +14,7 @@ ghost use Rattle.ops_ending.specs.MethodEnding.{IsCounted, IsCountedIn, later_by
 use crate::later::{count_later_links, count_later_stopped};
 use crate::left_vprocs::{End, goes_at};
 use decide_law::{count_links, count_stopped};
-use group_record::{Allow, Group, LogEntry, Member};
+use group_record::{Allow, Group, LogEntry, Members};
 use ordered_table::Table;
 use record_bag::Bag;
 use unix_names::{NoMemory, Pid, Seq, Signal};
@@ -129,10 +129,18 @@ fn untell(bag: &Bag, near: &[Pid], end: End, id: Pid, g: &mut Group)
 }
 
 // The members whose records stay.
-fn keep_left(bag: &Bag, end: End, members: &mut Seq<Member>)
+fn keep_left(bag: &Bag, end: End, members: &mut Members)
     ensures { members.new ≡ filter (λ m. not (passes (goes end.pid end.vanishes) (vproc_in bag.now m.pid))) members.old }
 {
-    members.retain(|m| !goes_at(bag, end, m.pid));
+    let mut at = 0;
+    while at < members.len() {
+        let pid = members.as_slice()[at].pid;
+        if goes_at(bag, end, pid) {
+            members.remove_at(at);
+        } else {
+            at += 1;
+        }
+    }
 }
 
 fn thin(bag: &Bag, near: &[Pid], end: End, id: Pid, g: &mut Group)

@@ -9,7 +9,7 @@ ghost use Rattle.ops_ending.specs.MethodEnding.{own_left, adopted, end_of, IsCha
 use ordered_table::Table;
 use record_bag::Bag;
 use unix_names::{Life, Pid, WaitStatus, is_living};
-use vproc_record::{Children, Vproc};
+use vproc_record::Vproc;
 
 /// The end of a process: who ends, who its parent is, whether nobody waits for it, and with which status it ends.
 #[derive(Clone, Copy, Debug, PartialEq, Eq)]
@@ -84,7 +84,7 @@ fn end_or_forget(end: End, v: &mut Vproc)
     if is_itself(end, v) {
         v.life = Life::Ended(end.status);
         v.change = None;
-        v.children = Children::new();
+        v.children.truncate(0);
     } else if end.vanishes {
         v.drop_child(end.pid);
     }

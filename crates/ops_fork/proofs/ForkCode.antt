@@ -1,7 +1,8 @@
 -- the records of a parent, as the code makes them, are what the fork leaves
-use Rattle.std.proofs.Common.{◌≡◌, ◌==◌, Bool, true, false, cond, List, [], ◌∷◌, refl, sym, ap, ◌∙◌, Option, None, Some, Result, Ok, Err, IfOk, OnErr, if◌then◌else◌}
+use Rattle.std.proofs.Common.{◌≡◌, ◌==◌, ◌++◌, ℕ, map, length, Bool, true, false, cond, List, [], ◌∷◌, refl, sym, ap, ◌∙◌, Option, None, Some, Result, Ok, Err, IfOk, OnErr, if◌then◌else◌}
 use Rattle.std.specs.Prelude.{is_some}
 use Rattle.std.specs.Option.{option_map}
+use Rattle.std.proofs.lemmas.List.{map-append}
 use Rattle.list_laws.specs.Keyed.{option_filter}
 use Rattle.list_laws.proofs.Filters.{some_same}
 use Rattle.unix_names.specs.declared.Pid.{Pid}
@@ -16,7 +17,8 @@ use Rattle.vproc_record.specs.declared.Vproc.{Vproc}
 use Rattle.group_record.specs.declared.Member.{Member}
 use Rattle.group_record.specs.declared.Group.{Group}
 use Rattle.group_record.specs.Members.{member_of, has_member}
-use Rattle.group_record.specs.Groups.{settled, trimmed}
+use Rattle.group_record.specs.Members.{begun_at}
+use Rattle.group_record.specs.Groups.{joined, settled, trimmed}
 use Rattle.ordered_table.specs.declared.Entry.{Entry}
 use Rattle.ordered_table.specs.Entries.{value_at, with_value, with_each, IsRising}
 use Rattle.record_bag.specs.declared.bag.Bag.{Bag}
@@ -36,6 +38,19 @@ use Rattle.decide_law.proofs.Shell.{group_is}
 use Rattle.decide_law.proofs.RoundParts.{base_answer}
 use Rattle.decide_law.proofs.Tables.{taken_and_put}
 use Rattle.ops_fork.specs.Fork.{with_newborn, joins, fork_effect, is_full, fork_answer, decide_fork}
+
+-- who joins begins at the log's end, whether the parent is settled before or after
+pub settled-joined_other : (g : Group) (parent child : Pid) (uid : ℕ) → settled (joined g child uid) parent ≡ joins child uid (settled g parent)
+settled-joined_other g parent child uid =
+    ap (λ ms. record g { members = ms })
+    (map-append (begun_at (length g.log) parent) g.members (last ∷ []) ∙ ap (λ m. map (begun_at (length g.log) parent) g.members ++ m ∷ []) (same (child.0 == parent.0)))
+  where
+    last : Member
+    last = record { pid = child; from = length g.log; uid = uid }
+
+    same : (b : Bool) → cond b (record last { from = length g.log }) last ≡ last
+    same true = refl
+    same false = refl
 
 -- ---- changes under one id
 only_twice : {T : Type 0} (p : Pid) (f h : T → T) (es : List (Entry T)) → with_each (only p f) (with_each (only p h) es) ≡ with_each (only p (λ x. f (h x))) es

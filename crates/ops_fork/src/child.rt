@@ -1,5 +1,6 @@
 // The records of a parent once it has forked.
 ghost use Rattle.std.specs.Prelude.{◌≡◌, ◌≤◌, ◌<◌, false, length, All, OnOk, OnErr};
+ghost use Rattle.vproc_record.specs.Vprocs.{with_child};
 ghost use Rattle.group_record.specs.Members.{has_member};
 ghost use Rattle.group_record.specs.Groups.{settled, trimmed};
 ghost use Rattle.sig_stream.specs.Streams.{stream};
@@ -12,7 +13,7 @@ use sig_stream::fold_tail;
 use signal_state::Own;
 use std::alloc::Global;
 use unix_names::{Life, NoMemory, Pid, Seq};
-use vproc_record::{Children, Vproc};
+use vproc_record::{Children, Refused, Vproc};
 
 /// The record of the child that is made at a site. It takes no memory.
 pub fn born_record(alloc: Global, v: &Vproc, site: Site) -> Vproc
@@ -29,7 +30,7 @@ pub fn born_record(alloc: Global, v: &Vproc, site: Site) -> Vproc
         execed: false,
         ignchld: v.ignchld,
         loc: site.node,
-        children: Children::new(),
+        children: Children::new(alloc),
         backlog: Seq::new(alloc),
     }
 }
@@ -47,10 +48,23 @@ fn join_settled(g: &mut Group, parent: Pid, child: Pid, uid: u32) -> Result<(), 
     Ok(())
 }
 
+// A child more, the last.
+fn list_child(v: &mut Vproc, child: Pid) -> Result<(), NoMemory>
+    requires { length v.old.children < 64 }
+    ensures ok { OnOk result (v.new ≡ with_child v.old child) }
+    ensures err { OnErr result (v.new ≡ v.old) }
+{
+    match v.add_child(child) {
+        Ok(()) => Ok(()),
+        Err(Refused::NoMemory) => Err(NoMemory),
+        Err(Refused::Full) => unreachable!(),
+    }
+}
+
 /// The parent takes in its stream and is settled, the child is the last in its list and the last member of its group, and the group is trimmed.
 ///
 /// # Errors
-/// NoMemory where there is no room for a member more; nothing is changed then.
+/// NoMemory where there is no room for a child or a member more; nothing is changed then.
 pub fn add_newborn(own: &mut Own, v: &mut Vproc, g: &mut Group, child: Pid) -> Result<(), NoMemory>
     requires taken { own.old.taken ≤ length (stream v.old g.old) }
     requires fresh { has_member g.old.members child ≡ false }
@@ -66,11 +80,13 @@ pub fn add_newborn(own: &mut Own, v: &mut Vproc, g: &mut Group, child: Pid) -> R
     let mut carried = *own;
     fold_tail(&mut carried, v, g);
     carried.taken = 0;
-    join_settled(g, v.pid, child, v.uid)?;
-    v.backlog.clear();
-    if v.add_child(child).is_err() {
-        unreachable!();
+    let had = v.children.len();
+    list_child(v, child)?;
+    if join_settled(g, v.pid, child, v.uid).is_err() {
+        v.children.truncate(had);
+        return Err(NoMemory);
     }
+    v.backlog.clear();
     *own = carried;
     Ok(())
 }

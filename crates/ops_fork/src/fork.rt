@@ -126,7 +126,7 @@ fn named_or(named: Option<NodeId>, place: NodeId) -> NodeId
 /// Decides fork: EAGAIN where the caller has 64 children; else the child comes at the node that is named, or else where the caller is, and asked elsewhere the answer is the way there.
 ///
 /// # Errors
-/// NoMemory where there is no room for the child among the members of its group; the bag is as before.
+/// NoMemory where there is no room for the child among the caller's children or the members of its group; the bag is as before.
 pub fn decide_fork(
     alloc: Global,
     pid: Pid,

@@ -1,17 +1,15 @@
 -- what is held once a process has joined a group
-use Rattle.std.proofs.Common.{◌≡◌, ◌≢◌, ◌==◌, ◌++◌, ◌-◌, ◌&&◌, ℕ, Bool, true, false, cond, List, [], ◌∷◌, drop, length, length-append, append-nil, not, refl, sym, ap, ◌∙◌, subst, arith, Option, None, Some}
-use Rattle.std.specs.Prelude.{filter, map, is_some, slice_set, OnOk, OnErr, Result, Ok, Err}
+use Rattle.std.proofs.Common.{◌≡◌, ◌==◌, ◌++◌, ◌&&◌, ℕ, Bool, true, false, cond, List, [], ◌∷◌, drop, length, append-nil, refl, sym, ap, ◌∙◌, subst, Option, None, Some}
+use Rattle.std.specs.Prelude.{filter, map, is_some, OnOk, OnErr, Result, Ok, Err}
 use Rattle.std.specs.Option.{option_map}
-use Rattle.std.proofs.lemmas.Bool.{eqb-true, eqb-false, ne_eqb}
-use Rattle.std.proofs.lemmas.List.Elements.{filter-append}
-use Rattle.std.proofs.Math.Seq.{set-append_seam}
+use Rattle.std.proofs.lemmas.Bool.{eqb-true, eqb-false}
 use Rattle.list_laws.proofs.Filters.{map-id, some_same}
 use Rattle.unix_names.specs.declared.Pid.{Pid}
 use Rattle.unix_names.specs.declared.Signal.{Signal}
 use Rattle.vproc_record.specs.declared.Vproc.{Vproc}
 use Rattle.group_record.specs.declared.Member.{Member}
 use Rattle.group_record.specs.declared.Group.{Group}
-use Rattle.group_record.specs.Groups.{joined, left, settled}
+use Rattle.group_record.specs.Groups.{left, settled}
 use Rattle.group_record.specs.Members.{member_of, has_member, from_in, begun_at}
 use Rattle.group_record.specs.Log.{concerns, log_part}
 use Rattle.group_record.proofs.LogLaws.{member_of-settled, log_part-settled_own, log_part-settled_other}
@@ -27,26 +25,6 @@ use Rattle.decide_law.proofs.Appended.{put_same, each_same}
 use Rattle.decide_law.proofs.Tables.{put_is_each}
 use Rattle.decide_law.proofs.Records.{pid_same, only_same, only_other}
 use Rattle.ops_groups.specs.MethodMove.{backlog_taken}
-
--- ---- members
--- the last of the members that stay
-last_named : (test : Member → Bool) (ms : List Member) (place m : Member) → test place ≡ true → slice_set (filter test (ms ++ place ∷ [])) (length (filter test (ms ++ place ∷ [])) - 1) m ≡ filter test ms ++ m ∷ []
-last_named test ms place m stays =
-    ap (λ l. slice_set l (length l - 1) m) (filter-append test ms (place ∷ []) ∙ ap (λ (b : Bool). filter test ms ++ cond b (place ∷ []) []) stays)
-    ∙ ap (λ (n : ℕ). slice_set (filter test ms ++ place ∷ []) n m) (last (filter test ms))
-    ∙ set-append_seam (filter test ms) place [] m
-  where
-    last : (l : List Member) → length (l ++ place ∷ []) - 1 ≡ length l
-    last l = let h = length-append l (place ∷ []) in omega arith
-
-pub joined_last : (g pushed gone : Group) (p : Pid) (from uid : ℕ) (place : Member) (members : List Member) → from ≡ length g.log → place.pid.0 ≢ p.0 → pushed ≡ record g { members = g.members ++ place ∷ [] } → gone ≡ left pushed p →
-    members ≡ slice_set gone.members (length gone.members - 1) (record { pid = p; from = from; uid = uid }) → record gone { members = members } ≡ joined (left g p) p uid
-joined_last g pushed gone p from uid place members end other push leave named =
-    let is : gone ≡ left (record g { members = g.members ++ place ∷ [] }) p = leave ∙ ap (λ (x : Group). left x p) push in
-    ap (λ (l : List Member). record gone { members = l }) named
-    ∙ ap (λ (x : Group). record x { members = slice_set x.members (length x.members - 1) (record { pid = p; from = from; uid = uid }) }) is
-    ∙ ap (λ (l : List Member). record g { members = l }) (last_named (λ (m : Member). not (m.pid.0 == p.0)) g.members place (record { pid = p; from = from; uid = uid }) (ap not (ne_eqb _ _ other)))
-    ∙ ap (λ (n : ℕ). record g { members = filter (λ (m : Member). not (m.pid.0 == p.0)) g.members ++ (record { pid = p; from = n; uid = uid }) ∷ [] }) end
 
 -- ---- the log
 -- what a log has for a process, once the caller has taken its part

@@ -10,7 +10,6 @@ use Rattle.unix_calls.specs.declared.Call.{Call}
 use Rattle.unix_calls.specs.declared.Call.TheVariants.{Fork, Getpid, Getppid, Getpgid, Getsid}
 use Rattle.unix_calls.specs.declared.Reply.{Reply}
 use Rattle.unix_calls.specs.declared.Reply.TheVariants.{Number, Refused}
-use Rattle.unix_calls.specs.declared.Reply.TheVariants as replies
 use Rattle.unix_calls.specs.declared.Entry.TheVariants.{Called}
 use Rattle.unix_calls.specs.declared.Job.TheVariants.{Ask}
 use Rattle.signal_state.specs.Signals.{Signals}

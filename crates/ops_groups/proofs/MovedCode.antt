@@ -1,5 +1,5 @@
 -- a move, as the code goes through it, is the whole change
-use Rattle.std.proofs.Common.{◌≡◌, ◌==◌, ◌<◌, ◌≤◌, ℕ, Bool, true, false, cond, List, [], ◌∷◌, length, nat_lt, All, refl, sym, ap, ◌∙◌, subst, arith, Option, None, Some}
+use Rattle.std.proofs.Common.{◌≡◌, ◌==◌, ℕ, Bool, true, false, cond, List, [], ◌∷◌, length, nat_lt, All, refl, sym, ap, ◌∙◌, subst, arith, Option, None, Some}
 use Rattle.std.specs.Prelude.{◌++◌, not, filter, map, slice_get, IsSome}
 use Rattle.std.proofs.lemmas.Bool.{eqb-true, eqb-false, ne_eqb}
 use Rattle.std.specs.Option.{option_map}
@@ -18,20 +18,18 @@ use Rattle.group_record.proofs.MemberLaws.{begun_at-number}
 use Rattle.ordered_table.specs.declared.Entry.{Entry}
 use Rattle.ordered_table.specs.Entries.{value_at, IsRising}
 use Rattle.record_bag.specs.declared.bag.Bag.{Bag}
-use Rattle.record_bag.specs.Bags.{present, vproc_in, group_in}
-use Rattle.process_table.specs.declared.Row.{Row}
+use Rattle.record_bag.specs.Bags.{present, group_in}
 use Rattle.process_table.specs.Rows.{is_same}
-use Rattle.decide_law.specs.Agrees.{group_at, IsGroupOf, Agrees, links_in, stopped_in}
-use Rattle.decide_law.specs.Counts.{passes, count_passing, recounted}
+use Rattle.decide_law.specs.Agrees.{group_at}
+use Rattle.decide_law.specs.Counts.{recounted}
 use Rattle.decide_law.specs.Effects.{only, or_empty, unless_empty, regroups, settled_for}
 use Rattle.decide_law.proofs.Changes.{group_changed}
 use Rattle.decide_law.proofs.Records.{pid_same}
 use Rattle.decide_law.proofs.SettledGroups.{group_seen}
 use Rattle.decide_law.proofs.FewCounts.{few_counts, held_group}
-use Rattle.decide_law.proofs.Shell.{group_is}
 use Rattle.decide_law.specs.Vector.{IsFitting}
 use Rattle.ops_groups.specs.Move.{GroupInSession, moved_vproc, moved_vprocs, moved_members, moved_group}
-use Rattle.ops_groups.specs.MethodMove.{IsCounted, IsCountedIn, mover_of, counts_in, counts_by_group, joined_to, joined_bag, recounted_from, left_unless, regrouped_by, with_counts, group_settled, moved_bag}
+use Rattle.ops_groups.specs.MethodMove.{IsCountedIn, mover_of, counts_in, counts_by_group, joined_to, joined_bag, recounted_from, left_unless, regrouped_by, with_counts, group_settled, moved_bag}
 use Rattle.ops_groups.specs.declared.mover.Mover.{Mover}
 use Rattle.ops_groups.specs.declared.tallies.Counts.{Counts}
 use Rattle.ops_groups.proofs.CountedTables.{entry_found, counted_each, each_agrees}

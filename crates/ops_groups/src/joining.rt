@@ -1,5 +1,5 @@
 // A process leaves its group's log and joins another group: what of a move may find no memory.
-ghost use Rattle.std.specs.Prelude.{◌≡◌, ◌≢◌, ◌++◌, ◌-◌, ◌&&◌, Some, IsSome, OnOk, OnErr, length, take, slice_set};
+ghost use Rattle.std.specs.Prelude.{◌≡◌, ◌++◌, ◌&&◌, Some, IsSome, OnOk, OnErr, length, take};
 ghost use Rattle.group_record.specs.declared.Group.{Group as TheGroup};
 ghost use Rattle.group_record.specs.Groups.{joined, left};
 ghost use Rattle.group_record.specs.Members.{has_member};
@@ -13,11 +13,11 @@ ghost use Rattle.ops_groups.specs.MethodMove.{in_session, joined_to, joined_bag}
 
 use crate::mover::{Mover, Place};
 use crate::settling::{Caller, groups_rise, take_out};
-use group_record::{Group, LogEntry, Member};
+use group_record::{Group, LogEntry, Member, Members};
 use ordered_table::Table;
 use record_bag::Bag;
 use std::alloc::Global;
-use unix_names::{NoMemory, Pid, SYSTEM, Seq, Signal};
+use unix_names::{NoMemory, Pid, Seq, Signal};
 use vproc_record::Vproc;
 
 // ---- what the old log has for the process
@@ -64,43 +64,17 @@ fn take_old_part(by: Caller, w: &mut Vproc, group: Pid, old: &Group) -> Result<(
 }
 
 // ---- the new group
-fn other_than(p: Pid) -> Pid
-    ensures { result.0 ≢ p.0 }
-{
-    if p == SYSTEM { Pid(0) } else { SYSTEM }
-}
-
-// Where there are members, the last is this one.
-fn name_last(members: &mut Seq<Member>, m: Member)
-    ensures { members.new ≡ slice_set members.old (length members.old - 1) m }
-{
-    let count = members.len();
-    if count > 0 {
-        members.replace(count - 1, m);
-    }
-}
-
-// The process is a member once, the last, whose part of the log begins at its end. Its place is made first, under another's name. After NoMemory the group is as before.
+// The process is a member once, the last, whose part of the log begins at its end. After NoMemory the group is as before.
 fn join_last(g: &mut Group, m: &Mover) -> Result<(), NoMemory>
     ensures ok { OnOk result (g.new ≡ joined (left g.old m.now.pid) m.now.pid m.now.uid) }
     ensures err { OnErr result (g.new ≡ g.old) }
 {
     let from = g.log.len() as u64;
-    let uid = m.uid;
-    let place = Member {
-        pid: other_than(m.pid),
-        from,
-        uid,
-    };
-    g.members.push(place)?;
-    g.leave(m.pid);
-    let member = Member {
+    g.members.move_last(Member {
         pid: m.pid,
         from,
-        uid,
-    };
-    name_last(&mut g.members, member);
-    Ok(())
+        uid: m.uid,
+    })
 }
 
 fn empty_group(alloc: Global, to: Place) -> Group
@@ -109,7 +83,7 @@ fn empty_group(alloc: Global, to: Place) -> Group
     Group {
         id: to.group,
         session: to.session,
-        members: Seq::new(alloc),
+        members: Members::new(alloc),
         log: Seq::new(alloc),
         links: 0,
         stopped: 0,

@@ -7,7 +7,7 @@ ghost use Rattle.decide_law.specs.Base.{HasBase};
 ghost use Rattle.ops_groups.specs.MethodMove.{IsMoveCall, IsCountedIn};
 
 use crate::moves::decide_move;
-use group_record::{Group, Member};
+use group_record::{Group, Member, Members};
 use ordered_table::Entry as Entered;
 use record_bag::{Bag, Held, Outcome};
 use sig_stream::{is_listed, stream_len};
@@ -30,15 +30,15 @@ fn process(alloc: Global, pid: u32, parent: u32, uid: u32) -> Vproc {
         execed: false,
         ignchld: false,
         loc: NodeId(0),
-        children: Children::new(),
+        children: Children::new(alloc),
         backlog: Seq::new(alloc),
     }
 }
 
 fn group(alloc: Global) -> Result<Group, NoMemory> {
-    let mut members = Seq::new(alloc);
+    let mut members = Members::new(alloc);
     for (pid, uid) in [(2, 5), (3, 7)] {
-        members.push(Member {
+        members.move_last(Member {
             pid: Pid(pid),
             from: 0,
             uid,

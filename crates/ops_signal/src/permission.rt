@@ -88,7 +88,10 @@ fn process_forbidden(bag: &Bag, v: &Vproc, sig: u32, t: Pid) -> bool
 fn may_some_member(v: &Vproc, sig: u32, g: &Group) -> bool
     ensures { result ≡ list_any (may_member v.now sig g.now) g.now.members }
 {
-    g.members.iter().any(|m| may_member(v, sig, g, m))
+    g.members
+        .as_slice()
+        .iter()
+        .any(|m| may_member(v, sig, g, m))
 }
 
 fn group_forbidden(bag: &Bag, v: &Vproc, sig: u32, id: Pid) -> bool

@@ -3,7 +3,7 @@ ghost use Rattle.record_tests.specs.Elsewhere.{elsewhere, lawful_elsewhere};
 ghost use Rattle.signal_state.specs.Sig.{fresh};
 ghost use Rattle.unix_calls.specs.declared.Job.TheVariants.{Look};
 
-use group_record::Group;
+use group_record::{Group, Members};
 use record_bag::{Bag, Held, OpVector, Outcome, Site};
 use signal_state::{Own, Sig};
 use std::alloc::Global;
@@ -67,7 +67,7 @@ fn vproc(alloc: Global, pid: u32) -> Vproc {
         execed: false,
         ignchld: false,
         loc: NodeId(0),
-        children: Children::new(),
+        children: Children::new(alloc),
         backlog: Seq::new(alloc),
     }
 }
@@ -76,7 +76,7 @@ fn group(alloc: Global, id: u32) -> Group {
     Group {
         id: Pid(id),
         session: Pid(2),
-        members: Seq::new(alloc),
+        members: Members::new(alloc),
         log: Seq::new(alloc),
         links: 0,
         stopped: 0,

@@ -17,7 +17,7 @@ fn vproc(alloc: Global, pid: u32, life: Life) -> Vproc {
         execed: false,
         ignchld: false,
         loc: NodeId(3),
-        children: Children::new(),
+        children: Children::new(alloc),
         backlog: Seq::new(alloc),
     }
 }

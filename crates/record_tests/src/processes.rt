@@ -1,6 +1,6 @@
 use std::test::Fail;
 use unix_names::{Life, NodeId, Pid, Seq, Signal};
-use vproc_record::{Children, Full, Vproc};
+use vproc_record::{Children, Refused, Vproc};
 
 #[test]
 fn sixty_four_children(rt: HostRuntime) -> Result<(), Fail> {
@@ -15,13 +15,13 @@ fn sixty_four_children(rt: HostRuntime) -> Result<(), Fail> {
         execed: false,
         ignchld: false,
         loc: NodeId(0),
-        children: Children::new(),
+        children: Children::new(rt.alloc()),
         backlog: Seq::new(rt.alloc()),
     };
     for serial in 3..67u32 {
         assert_eq!(rt; v.add_child(Pid(serial)), Ok(()));
     }
-    assert_eq!(rt; v.add_child(Pid(67)), Err(Full));
+    assert_eq!(rt; v.add_child(Pid(67)), Err(Refused::Full));
     v.drop_child(Pid(4));
     v.drop_child(Pid(67));
     assert_eq!(rt; v.children.len(), 63);

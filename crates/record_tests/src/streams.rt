@@ -1,7 +1,7 @@
 ghost use Rattle.std.specs.Prelude.{IsTrue, ◌↔◌, ◌≤◌, ◌≡◌, [], All, length};
 ghost use Rattle.sig_stream.specs.Streams.{stream, tail};
 
-use group_record::{Allow, Group, Member};
+use group_record::{Allow, Group, Member, Members};
 use sig_stream::{fold_tail, is_listed, regroup, settle, stream_len, tail_len};
 use signal_state::{Own, Sig};
 use std::alloc::Global;
@@ -21,7 +21,7 @@ fn process(alloc: Global, pid: u32, uid: u32) -> Vproc {
         execed: false,
         ignchld: false,
         loc: NodeId(0),
-        children: Children::new(),
+        children: Children::new(alloc),
         backlog: Seq::new(alloc),
     }
 }
@@ -30,7 +30,7 @@ fn group(alloc: Global, id: u32) -> Group {
     Group {
         id: Pid(id),
         session: Pid(2),
-        members: Seq::new(alloc),
+        members: Members::new(alloc),
         log: Seq::new(alloc),
         links: 0,
         stopped: 0,
@@ -66,14 +66,14 @@ fn trims_what_all_have_passed(rt: HostRuntime) -> Result<(), Fail> {
     for s in [Signal::Hup, Signal::Int, Signal::Quit] {
         g.append(s, None, Allow::All)?;
     }
-    g.members.push(Member {
+    g.members.move_last(Member {
         pid: Pid(3),
         from: 3,
         uid: 0,
     })?;
     g.append(Signal::Usr1, None, Allow::All)?;
     g.append(Signal::Usr2, None, Allow::All)?;
-    g.members.push(Member {
+    g.members.move_last(Member {
         pid: Pid(4),
         from: 5,
         uid: 0,

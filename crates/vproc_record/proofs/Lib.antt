@@ -1,1 +1,1 @@
-pub mod Retained
+pub mod Without

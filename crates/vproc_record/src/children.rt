@@ -1,20 +1,25 @@
 // The children of a process.
-ghost use Rattle.std.specs.Prelude.{◌≡◌, ◌≤◌, ◌↔◌, [], ◌∷◌, ◌++◌, length, IsErr, OnOk, OnErr};
+ghost use Rattle.std.specs.Prelude.{◌≡◌, ◌≤◌, ◌↔◌, [], ◌∷◌, ◌++◌, length, take, Err, IfOk, OnOk, OnErr};
 ghost use Rattle.unix_names.specs.declared.limits.TheConstants.{MOST_CHILDREN};
+ghost use Rattle.vproc_record.specs.declared.children.Refused.TheVariants.{Full};
 ghost use Rattle.vproc_record.specs.Lists.{without};
 
-use arrayvec::ArrayVec;
+use std::alloc::Global;
 use std::marker::Model;
-use unix_names::{MOST_CHILDREN, Pid};
+use unix_names::{MOST_CHILDREN, NoMemory, Pid, Seq};
 
-/// A process has as many children as it may have.
+/// Why a process gets no child more.
 #[derive(Clone, Copy, Debug, PartialEq, Eq)]
-pub struct Full;
+pub enum Refused {
+    /// It has as many as it may have.
+    Full,
+    NoMemory,
+}
 
 /// The children of a process in order of creation, at most `MOST_CHILDREN`. Contracts see the list.
 #[derive(Debug, Drop)]
 pub struct Children {
-    pids: ArrayVec<Pid, MOST_CHILDREN>,
+    pids: Seq<Pid>,
 }
 
 impl Model for Children {
@@ -24,18 +29,18 @@ impl Model for Children {
 
     ghost Value = { List Pid };
 
-    ghost view = { λ c. c.pids.items };
+    ghost view = { λ c. c.pids };
 
-    ghost invariant = { λ c. length c.pids.items ≤ MOST_CHILDREN };
+    ghost invariant = { λ c. length c.pids ≤ MOST_CHILDREN };
 }
 
 impl Children {
-    /// No children.
-    pub fn new() -> Children
+    /// No children. It takes no memory.
+    pub fn new(alloc: Global) -> Children
         ensures { result ≡ [] }
     {
         Children {
-            pids: ArrayVec::new(),
+            pids: Seq::new(alloc),
         }
     }
 
@@ -55,16 +60,21 @@ impl Children {
         self.pids.as_slice()
     }
 
-    /// Puts a child last. Full exactly where as many are listed as a process may have.
-    pub fn add(&mut self, child: Pid) -> Result<(), Full>
-        ensures full { IsErr result ↔ (length self.old ≡ MOST_CHILDREN) }
+    /// Puts a child last.
+    ///
+    /// # Errors
+    /// Full exactly where as many are listed as a process may have; else NoMemory. Nothing is changed then.
+    pub fn add(&mut self, child: Pid) -> Result<(), Refused>
+        ensures full { (result ≡ Err Full) ↔ (length self.old ≡ MOST_CHILDREN) }
         ensures ok { OnOk result (self.new ≡ self.old ++ child ∷ []) }
         ensures err { OnErr result (self.new ≡ self.old) }
     {
-        if self.pids.is_full() {
-            return Err(Full);
+        if self.pids.len() >= MOST_CHILDREN {
+            return Err(Refused::Full);
         }
-        self.pids.push(child);
+        if self.pids.push(child).is_err() {
+            return Err(Refused::NoMemory);
+        }
         Ok(())
     }
 
@@ -75,14 +85,18 @@ impl Children {
         self.pids.retain(|pid| *pid != child);
     }
 
-    /// An equal list.
-    pub fn copy(&self) -> Children
-        ensures { result ≡ self.now }
+    /// Only the first ones stay, as many as that. It takes no memory.
+    pub fn truncate(&mut self, count: usize)
+        ensures { self.new ≡ take count self.old }
     {
-        let mut pids = ArrayVec::new();
-        for pid in self.pids.as_slice() {
-            pids.push(*pid);
-        }
-        Children { pids }
+        self.pids.truncate(count);
+    }
+
+    /// An equal list.
+    pub fn copy(&self) -> Result<Children, NoMemory>
+        ensures { IfOk result (λ c. c ≡ self.now) }
+    {
+        let pids = self.pids.clone()?;
+        Ok(Children { pids })
     }
 }

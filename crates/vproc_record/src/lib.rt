@@ -4,5 +4,5 @@
 mod children;
 mod vproc;
 
-pub use children::{Children, Full};
+pub use children::{Children, Refused};
 pub use vproc::Vproc;

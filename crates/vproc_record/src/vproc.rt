@@ -1,9 +1,10 @@
 // The record of a process.
-ghost use Rattle.std.specs.Prelude.{◌≡◌, ◌==◌, ◌↔◌, false, length, IsErr, IfOk, OnOk, OnErr};
+ghost use Rattle.std.specs.Prelude.{◌≡◌, ◌==◌, ◌↔◌, false, length, Err, IfOk, OnOk, OnErr};
 ghost use Rattle.std.specs.List.{list_any};
+ghost use Rattle.vproc_record.specs.declared.children.Refused.TheVariants.{Full};
 ghost use Rattle.vproc_record.specs.Vprocs.{with_child, without_child, with_signal};
 
-use crate::children::{Children, Full};
+use crate::children::{Children, Refused};
 use unix_names::{Life, NoMemory, NodeId, Pid, Seq, Signal, WaitStatus};
 
 /// The record of a process.
@@ -31,9 +32,12 @@ pub struct Vproc {
 }
 
 impl Vproc {
-    /// Puts a child last. Full exactly where 64 are listed. It takes no memory.
-    pub fn add_child(&mut self, child: Pid) -> Result<(), Full>
-        ensures full { IsErr result ↔ (length self.old.children ≡ 64) }
+    /// Puts a child last.
+    ///
+    /// # Errors
+    /// Full exactly where 64 are listed; else NoMemory. Nothing is changed then.
+    pub fn add_child(&mut self, child: Pid) -> Result<(), Refused>
+        ensures full { (result ≡ Err Full) ↔ (length self.old.children ≡ 64) }
         ensures ok { OnOk result (self.new ≡ with_child self.old child) }
         ensures err { OnErr result (self.new ≡ self.old) }
     {
@@ -61,6 +65,7 @@ impl Vproc {
     pub fn copy(&self) -> Result<Vproc, NoMemory>
         ensures { IfOk result (λ v. v ≡ self.now) }
     {
+        let children = self.children.copy()?;
         let backlog = self.backlog.clone()?;
         Ok(Vproc {
             pid: self.pid,
@@ -73,7 +78,7 @@ impl Vproc {
             execed: self.execed,
             ignchld: self.ignchld,
             loc: self.loc,
-            children: self.children.copy(),
+            children,
             backlog,
         })
     }

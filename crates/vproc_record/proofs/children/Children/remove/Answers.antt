@@ -1,7 +1,10 @@
 use Rattle.std.proofs.Common.{rules, not, ◌==◌}
-use Rattle.vproc_record.specs.Lists.{without}
-use Rattle.vproc_record.proofs.Retained.{retained_same}
+use Rattle.std.proofs.lemmas.Fn.{filter_same}
+use Rattle.vproc_record.proofs.Without.{without-fits}
 use Rattle.vproc_record.proofs.children.Children.remove.Goals as goal
 
+pub invariant_of-self : goal.invariant_of-self
+invariant_of-self c = rw (filter_same _ (λ q. not (q.0 == c.args.child.0)) _ (λ x b f k. search rules) _ _ c.retain.ensures) (without-fits c.args.child c.self.inside.pids _ c.self.invariant)
+
 pub returns : goal.returns
-returns c = rw (← c.self.view_is) (retained_same _ (λ q. not (q.0 == c.args.child.0)) _ (λ x b g y k. (search rules, search rules, search rules)) _ _ c.retain.ensures.filtered)
+returns c = rw (← c.self.view_is) (filter_same _ (λ q. not (q.0 == c.args.child.0)) _ (λ x b f k. search rules) _ _ c.retain.ensures)

@@ -1,5 +1,5 @@
-use Rattle.std.proofs.Common.{◌≡◌, ap, ◌∙◌}
-use Rattle.vproc_record.proofs.Retained.{without-absent}
+use Rattle.std.proofs.Common.{ap, ◌∙◌}
+use Rattle.vproc_record.proofs.Without.{without-absent}
 use Rattle.vproc_record.proofs.vproc.Vproc.drop_child.Goals as goal
 
 pub returns-clause-absent : goal.returns-clause-absent
